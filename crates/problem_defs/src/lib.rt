@@ -1,0 +1,14 @@
+//! The min-max problems of connectivity: what is asked, what answers it, and weak duality.
+#![tactic(auto)]
+
+mod ask;
+mod cert;
+mod certified;
+mod flow;
+mod problem;
+
+pub use ask::{Ask, Misfit, unfit};
+pub use cert::{Body, Cert, Family, ForestDual, PartsDual, Way};
+pub use certified::{Certified, best};
+pub use flow::FlowAsk;
+pub use problem::Problem;
