@@ -1,0 +1,353 @@
+"""A plain reader of graph texts and of certificates, and plain answers by the definitions: what the program is compared with."""
+
+import re
+
+NAME = re.compile(rb"[A-Za-z0-9_.\-]{1,32}\Z")
+DECIMAL = re.compile(rb"(0|[1-9][0-9]*)\Z")
+MOST_BYTES, MOST_NODES, MOST_LINES = 1_048_576, 128, 2_048
+COMMANDS = {"flow": 2, "cuttree": 0, "augment": 1, "augment-arcs": 1, "arborescences": 1,
+            "trees": 0, "forests": 0, "orient": 1, "dijoin": 0, "check": 0, "trial": 3}
+KINDS = ["flow", "augment", "augment-arcs", "arborescences", "trees", "forests", "orient", "dijoin"]
+
+
+class Fault(Exception):
+    """A graph text's first fault: its line, counted from 1, and the word of its cause."""
+
+    def __init__(self, line, why):
+        super().__init__(line, why)
+        self.line, self.why = line, why
+
+
+class Graph:
+    def __init__(self, directed):
+        self.directed, self.names, self.lines = directed, [], []
+
+    def number(self, name):
+        return self.names.index(name) if name in self.names else None
+
+
+def lines_of(data):
+    """The lines of a text, each with its line feed."""
+    return re.findall(rb"[^\n]*\n|[^\n]+\Z", data)
+
+
+def words_of(line):
+    line = line[:-1] if line.endswith(b"\n") else line
+    line = line[:-1] if line.endswith(b"\r") else line
+    return [w for w in re.split(rb"[ \t]+", line) if w]
+
+
+def fits(words):
+    """Whether the words fit a row of the table of items."""
+    first, count = words[0], len(words)
+    return (first == b"node" and count == 2 or first == b"edge" and count == 3
+            or first == b"arc" and (count == 3 or count == 4 and words[3] == b"fixed")
+            or first == b"end" and count == 1)
+
+
+def cause(graph, words):
+    if graph is None:
+        return None if words in ([b"graph", b"undirected"], [b"graph", b"directed"]) else "header"
+    if not fits(words):
+        return "line"
+    item = words[0]
+    if item == b"edge" and graph.directed or item == b"arc" and not graph.directed:
+        return "kind"
+    if item == b"end":
+        return None if graph.names else "nonode"
+    names = words[1:2] if item == b"node" else words[1:3]
+    if not all(NAME.match(name) for name in names):
+        return "name"
+    if item == b"node":
+        return "twice" if names[0] in graph.names else "nodes" if len(graph.names) >= MOST_NODES else None
+    if not all(name in graph.names for name in names):
+        return "unknown"
+    return "loop" if names[0] == names[1] else "lines" if len(graph.lines) >= MOST_LINES else None
+
+
+def read_graph(data):
+    """The graph at the front of the bytes and how many bytes it takes, or Fault."""
+    graph, taken, lines = None, 0, lines_of(data)
+    for number, line in enumerate(lines, 1):
+        taken += len(line)
+        words = words_of(line)
+        if not words or words[0].startswith(b"#"):
+            continue
+        why = cause(graph, words)
+        if why:
+            raise Fault(number, why)
+        if graph is None:
+            graph = Graph(words[1] == b"directed")
+        elif words[0] == b"node":
+            graph.names.append(words[1])
+        elif words[0] == b"end":
+            return graph, taken, number
+        else:
+            graph.lines.append((graph.number(words[1]), graph.number(words[2]), len(words) == 4))
+    raise Fault(len(lines) + 1, "header" if graph is None else "noend")
+
+
+def read_graph_alone(data):
+    graph, taken, number = read_graph(data)
+    for later, line in enumerate(lines_of(data[taken:]), number + 1):
+        words = words_of(line)
+        if words and not words[0].startswith(b"#"):
+            raise Fault(later, "line")
+    return graph
+
+
+def bad_word(words):
+    """The place, from 1, of the first word at which no command continues, or None."""
+    if not words:
+        return 1
+    if words[0] not in COMMANDS:
+        return 1
+    ranges = {"augment": [(1, 32)], "augment-arcs": [(1, 32)], "orient": [(1, 32)],
+              "trial": [None, (2, 128), (0, 4294967295)]}.get(words[0])
+    for place in range(COMMANDS[words[0]]):
+        if len(words) <= place + 1:
+            return len(words) + 1
+        word = words[place + 1]
+        if words[0] == "trial" and place == 0:
+            if word not in KINDS:
+                return 2
+        elif ranges:
+            low, high = ranges[place]
+            if not DECIMAL.match(word.encode()) or not low <= int(word) <= high:
+                return place + 2
+    return COMMANDS[words[0]] + 2 if len(words) > COMMANDS[words[0]] + 1 else None
+
+
+def unfit(graph, words):
+    """The first reason for which the command's ask doesn't suit the graph, or None."""
+    wants = {"flow": None, "augment-arcs": True, "arborescences": True, "dijoin": True}.get(words[0], False)
+    if wants is not None and wants != graph.directed:
+        return "kind"
+    named = words[1:] if words[0] in ("flow", "arborescences") else []
+    nodes = [graph.number(word.encode("utf-8", "surrogateescape")) for word in named]
+    if None in nodes:
+        return "node"
+    if words[0] == "flow" and nodes[0] == nodes[1]:
+        return "same"
+    return "small" if words[0] in ("arborescences", "trees") and len(graph.names) == 1 else None
+
+
+# ---- counts, over sides as sets of node numbers
+
+def degree(lines, side):
+    return sum((t in side) != (h in side) for t, h, *_ in lines)
+
+
+def leaving(lines, side):
+    return sum(t in side and h not in side for t, h, *_ in lines)
+
+
+def entering(lines, side):
+    return sum(h in side and t not in side for t, h, *_ in lines)
+
+
+def induced(lines, side):
+    return sum(t in side and h in side for t, h, *_ in lines)
+
+
+def out_of(graph, side):
+    return leaving(graph.lines, side) if graph.directed else degree(graph.lines, side)
+
+
+def most_walks(n, lines, directed, s, t):
+    """How many disjoint walks lead from s to t, by one search for each."""
+    room = {}
+    for u, v, *_ in lines:
+        room.setdefault(u, {}).setdefault(v, 0)
+        room.setdefault(v, {}).setdefault(u, 0)
+        room[u][v] += 1
+        room[v][u] += 0 if directed else 1
+    found = 0
+    while True:
+        came, queue = {s: None}, [s]
+        for u in queue:
+            for v, free in room.get(u, {}).items():
+                if free and v not in came:
+                    came[v] = u
+                    queue.append(v)
+            if t in came:
+                break
+        if t not in came:
+            return found
+        v = t
+        while came[v] is not None:
+            u = came[v]
+            room[u][v] -= 1
+            room[v][u] += 1
+            v = u
+        found += 1
+
+
+def is_walk(graph, s, t, numbers):
+    """Whether the lines with these numbers, from 0, are a walk from s to t."""
+    at = s
+    for j in numbers:
+        tail, head, _ = graph.lines[j]
+        if tail == at:
+            at = head
+        elif head == at and not graph.directed:
+            at = tail
+        else:
+            return False
+    return bool(numbers) and at == t
+
+
+def is_forest(n, pairs):
+    parent = list(range(n))
+
+    def root(v):
+        while parent[v] != v:
+            parent[v] = parent[parent[v]]
+            v = parent[v]
+        return v
+
+    for u, v in pairs:
+        u, v = root(u), root(v)
+        if u == v:
+            return False
+        parent[u] = v
+    return True
+
+
+# ---- certificates
+
+class Bad(Exception):
+    def __init__(self, line):
+        super().__init__(line)
+        self.line = line
+
+
+def rows(words, m):
+    """The pieces of each row of the table for the command: (form, least, most)."""
+    many, end = 10 ** 9, ("end", 1, 1)
+
+    def valued(form, dual, least=0, most=many, sets=(0, many)):
+        return [("value", 1, 1), (form, least, most), ("dual " + dual, 1, 1), ("set", *sets), end]
+
+    never = [("impossible", 1, 1), None, ("set", 1, 1), end]
+    command = words[0]
+    if command == "flow":
+        return [valued("path", "cut", sets=(1, 1))]
+    if command == "cuttree":
+        return [[("tree", 0, many), end]]
+    if command == "augment":
+        return [valued("edge", "components" if words[1] == "1" else "subpartition")]
+    if command == "augment-arcs":
+        return [valued("arc", "in"), valued("arc", "out")]
+    if command == "arborescences":
+        return [valued("part", "cut", sets=(1, 1))]
+    if command == "trees":
+        return [valued("part", "partition")]
+    if command == "forests":
+        return [valued("part", "set", sets=(1, 1)), valued("part", "none", sets=(0, 0))]
+    if command == "orient":
+        return [[("turned", m, m), end], [never[0], ("dual cut", 1, 1), *never[2:]]]
+    return [valued("join", "dicuts", 1, 1), [never[0], ("dual dicut", 1, 1), *never[2:]]]
+
+
+def says(graph, line):
+    """The form of a line and what it holds, or None; the line has no line feed."""
+    if not line or line.startswith(b" ") or line.endswith(b" ") or b"  " in line:
+        return None
+    words = line.split(b" ")
+    word, rest = words[0].decode("latin-1"), words[1:]
+    number = [int(w) for w in rest if DECIMAL.match(w) and int(w) < 2 ** 64]
+    nodes = [graph.number(w) for w in rest]
+    if word in ("path", "part", "join"):
+        good = len(number) == len(rest) and all(1 <= j <= len(graph.lines) for j in number)
+        return (word, [j - 1 for j in number]) if good else None
+    if word == "value":
+        return (word, number[0]) if len(rest) == 1 and number else None
+    if word in ("impossible", "end"):
+        return (word, None) if not rest else None
+    if word == "set":
+        return (word, nodes) if None not in nodes and sorted(set(nodes)) == nodes else None
+    if word in ("edge", "arc"):
+        return (word, tuple(nodes)) if len(rest) == 2 and None not in nodes else None
+    if word == "tree":
+        good = len(rest) == 3 and None not in nodes[:2] and DECIMAL.match(rest[2]) and int(rest[2]) < 2 ** 64
+        return (word, (nodes[0], nodes[1], int(rest[2]))) if good else None
+    if word == "dual" and len(rest) == 1:
+        return (b"dual " + rest[0]).decode("latin-1"), None
+    return None
+
+
+def read_certificate(graph, data):
+    """The command's words and the forms and contents of the lines after it, and how many lines and bytes, or Bad."""
+    whole = re.findall(rb"([^\n]*)\n", data)
+    if not whole or whole[0] != b"certificate 1":
+        raise Bad(1)
+    if len(whole) < 2 or not whole[1].startswith(b"command "):
+        raise Bad(2)
+    words = [w.decode("latin-1") for w in whole[1].split(b" ")[1:]]
+    if bad_word(words) or words[0] in ("check", "trial") or unfit(graph, words):
+        raise Bad(2)
+    left = [[list(piece) for piece in row] for row in rows(words, len(graph.lines))]
+    seen, turned = [], 0
+    for number, line in enumerate(whole[2:], 3):
+        said, after = says(graph, line), []
+        for row in left if said else []:
+            while row:
+                form, least, most = row[0]
+                if matches(graph, form, said, turned) and most > 0:
+                    after.append([[form, max(least - 1, 0), most - 1], *row[1:]])
+                    break
+                if least > 0:
+                    break
+                row = row[1:]
+        if not after:
+            raise Bad(number)
+        left = after
+        seen.append(said)
+        turned += said[0] == "arc"
+        if said[0] == "end":
+            return words, seen, number, sum(len(l) + 1 for l in whole[:number])
+    raise Bad(len(whole) + 1)
+
+
+def matches(graph, form, said, turned):
+    if form == "turned":
+        return said[0] == "arc" and turned < len(graph.lines) and set(said[1]) == set(graph.lines[turned][:2])
+    return form == said[0]
+
+
+def judge(graph, words, seen):
+    """None where the certificate meets the graph, else the first reason for which it doesn't."""
+    n, command = len(graph.names), words[0]
+    of = lambda form: [content for name, content in seen if name == form]
+    value, sets = (of("value") or [None])[0], [set(s) for s in of("set")]
+    if command == "flow":
+        s, t = (graph.number(w.encode()) for w in words[1:])
+        paths = of("path")
+        used = [j for path in paths for j in path]
+        if not all(is_walk(graph, s, t, p) for p in paths) or len(set(used)) < len(used):
+            return "infeasible"
+        if s not in sets[0] or t in sets[0]:
+            return "dual"
+        return None if value == len(paths) == out_of(graph, sets[0]) else "gap"
+    if command == "cuttree":
+        pairs = of("tree")
+        if len(pairs) != n - 1 or any(u == v for u, v, _ in pairs) or not is_forest(n, [p[:2] for p in pairs]):
+            return "infeasible"
+        for at, (u, v, w) in enumerate(pairs):
+            side = reached(u, [p for i, p in enumerate(pairs) if i != at])
+            if degree(graph.lines, side) != w or most_walks(n, graph.lines, False, u, v) < w:
+                return "dual"
+        return None
+    raise NotImplementedError(command)
+
+
+def reached(start, pairs):
+    side, grows = {start}, True
+    while grows:
+        grows = False
+        for u, v, *_ in pairs:
+            if (u in side) != (v in side):
+                side |= {u, v}
+                grows = True
+    return side
