@@ -1,4 +1,5 @@
 pub mod Ask
+pub mod Best
 pub mod Certified
 pub mod CutTree
 pub mod Duality

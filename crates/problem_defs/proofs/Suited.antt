@@ -1,0 +1,23 @@
+-- What an ask without a misfit means for its problem.
+use Rattle.std.proofs.Common.{ℕ, ◌≡◌, ◌==◌, ◌||◌, Bool, true, false, cond, nat_le, length, Option, Some, None, refl, arith}
+use Rattle.graph_core.specs.Graph.{GraphValue}
+use Rattle.problem_defs.specs.Ask.{misfit_of}
+use Rattle.problem_defs.specs.Flow.{Suits}
+use Rattle.problem_defs.specs.declared.ask.Ask.TheVariants.{Flow}
+use Rattle.problem_defs.specs.declared.ask.Misfit.{Misfit}
+use Rattle.problem_defs.specs.declared.ask.Misfit.TheVariants.{Node, Same}
+
+-- where a choice of two answers is None, and one of them isn't, it is the other
+left_out : (b : Bool) (x : Misfit) (rest : Option Misfit) → cond b (Some x) rest ≡ None → (b ≡ false) × (rest ≡ None)
+left_out true x rest e = absurd cc
+left_out false x rest e = (refl, e)
+
+pub flow_suits : (g : GraphValue) (s t : ℕ) → misfit_of g (Flow s t) ≡ None → Suits s t g
+flow_suits g s t none =
+    let (known, rest) = left_out (nat_le (length g.names) s || nat_le (length g.names) t) Node _ none in
+    let (apart, end) = left_out (s == t) Same _ rest in
+    record {
+      from = grind arith;
+      to = grind arith;
+      apart = grind arith;
+    }
