@@ -4,7 +4,7 @@ use Rattle.graph_core.specs.Graph.{GraphValue}
 use Rattle.problem_defs.specs.Ask.{misfit_of}
 use Rattle.problem_defs.specs.Best.{IsBest}
 use Rattle.problem_defs.specs.FlowLaw.{law}
-use Rattle.problem_defs.specs.Meets.{Meets, Answers}
+use Rattle.problem_defs.specs.Meets.{Meets, HasObject, HasDual, HasValue}
 use Rattle.problem_defs.proofs.Suited.{flow_suits}
 use Rattle.problem_defs.specs.declared.ask.Ask.{Ask}
 use Rattle.problem_defs.specs.declared.ask.Ask.TheVariants.{Flow, CutTree}
@@ -12,11 +12,11 @@ use Rattle.problem_defs.specs.declared.cert.Body.{Body}
 use Rattle.problem_defs.specs.declared.cert.Body.TheVariants.{Tree, Walks}
 use Rattle.problem_defs.specs.declared.cert.Cert.{Cert}
 
-answers-best : (g : GraphValue) (ask : Ask) (body : Body) → misfit_of g ask ≡ None → Answers g ask body → IsBest g ask body
-answers-best g (Flow s t) (Walks value rows cut) suits proves =
-    λ walks feasible. let le = law s t g walks cut (flow_suits g s t suits) feasible proves.dual_is in omega (arith, le, proves.equal)
-answers-best g CutTree (Tree pairs) suits tree = tt
-answers-best g ask body suits answers = answers
+best_of : (g : GraphValue) (ask : Ask) (body : Body) → misfit_of g ask ≡ None → HasObject g ask body → HasDual g ask body → HasValue g ask body → IsBest g ask body
+best_of g (Flow s t) (Walks value rows cut) suits object dual values =
+    λ walks feasible. let le = law s t g walks cut (flow_suits g s t suits) feasible dual in omega (arith, le, values.1)
+best_of g CutTree (Tree pairs) suits object dual values = tt
+best_of g ask body suits object dual values = object
 
 pub meets-best : (g : GraphValue) (cert : Cert) → Meets g cert → IsBest g cert.ask cert.body
-meets-best g cert meets = answers-best g cert.ask cert.body meets.shaped.suits meets.answers
+meets-best g cert meets = best_of g cert.ask cert.body meets.shaped.suits meets.object meets.dual meets.value

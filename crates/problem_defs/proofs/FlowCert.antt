@@ -28,5 +28,7 @@ flow-meets g s t rows cut graph suits feasible dual equal = record {
     in_range = (All-weaker (IsWalk g.kind g.lines s t) (All (λ j. j < length g.lines)) (λ w walk. way_in_range g.kind g.lines s t w walk.way) rows feasible.each, dual.long);
     numbers_fit = omega (arith, equal, count_by-le-length (cut_by g.kind cut) g.lines, graph.few, (let small : 65536 < 2 ^ 64 = lit< tt in small));
   };
-  answers = record { object_is = feasible; dual_is = dual; written_is = refl; equal = equal };
+  object = feasible;
+  dual = dual;
+  value = (refl, equal);
 }

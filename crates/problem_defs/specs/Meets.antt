@@ -1,5 +1,5 @@
 -- When a certificate meets its graph: what it says is true of the graph, and proves itself best.
-use Rattle.std.specs.Prelude.{ℕ, ◌≡◌, length}
+use Rattle.std.specs.Prelude.{◌≡◌, length}
 use Rattle.graph_core.specs.Graph.{GraphValue}
 use Rattle.problem_defs.specs.CutTree as cut_tree
 use Rattle.problem_defs.specs.Flow as flow
@@ -10,19 +10,28 @@ use Rattle.problem_defs.specs.declared.cert.Body.{Body}
 use Rattle.problem_defs.specs.declared.cert.Body.TheVariants.{Tree, Walks}
 use Rattle.problem_defs.specs.declared.cert.Cert.{Cert}
 
--- object and dual are feasible, and the written value, the object's value and the dual's bound are equal
-pub record Proves (object dual : Type 0) (written value bound : ℕ) : Type 0 where
-  pub object_is : object
-  pub dual_is : dual
-  pub written_is : written ≡ value
-  pub equal : value ≡ bound
+-- The three facts below go by each ask and its bodies; no other body answers an ask. A further problem joins by its lines.
 
--- By each ask and its bodies; no other body answers an ask. A further problem joins by its line.
-abbrev pub Answers : GraphValue → Ask → Body → Type 0
-Answers g (Flow s t) (Walks value rows cut) = Proves (flow.IsFeasible s t g rows) (flow.IsDual s t g cut) value (length rows) (flow.bound g cut)
-Answers g CutTree (Tree pairs) = cut_tree.IsCutTree g pairs
-Answers g ask body = ⊥
+-- the object is feasible
+abbrev pub HasObject : GraphValue → Ask → Body → Type 0
+HasObject g (Flow s t) (Walks value rows cut) = flow.IsFeasible s t g rows
+HasObject g CutTree (Tree pairs) = cut_tree.IsSpanningTree g pairs
+HasObject g ask body = ⊥
+
+-- the dual is feasible; of a cut tree, each pair is a least cut
+abbrev pub HasDual : GraphValue → Ask → Body → Type 0
+HasDual g (Flow s t) (Walks value rows cut) = flow.IsDual s t g cut
+HasDual g CutTree (Tree pairs) = cut_tree.AreLeastCuts g pairs
+HasDual g ask body = ⊥
+
+-- the written value, the object's value and the dual's bound are equal; a cut tree has none of them
+abbrev pub HasValue : GraphValue → Ask → Body → Type 0
+HasValue g (Flow s t) (Walks value rows cut) = (value ≡ length rows) × (length rows ≡ flow.bound g cut)
+HasValue g CutTree (Tree pairs) = Unit {0}
+HasValue g ask body = ⊥
 
 pub record Meets (g : GraphValue) (cert : Cert) : Type 0 where
   pub shaped : IsShaped g cert
-  pub answers : Answers g cert.ask cert.body
+  pub object : HasObject g cert.ask cert.body
+  pub dual : HasDual g cert.ask cert.body
+  pub value : HasValue g cert.ask cert.body
