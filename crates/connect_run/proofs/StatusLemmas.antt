@@ -1,0 +1,60 @@
+-- Which statuses answers have.
+use Rattle.std.proofs.Common.{◌≡◌, ℕ, ◌⊎◌, List, Bool, true, false, Option, Some, refl, sym, ap, ◌∙◌, subst, inl, inr}
+use Rattle.graph_core.specs.Graph.{GraphValue}
+use Rattle.graph_text.specs.declared.refusal.Why.{Why}
+use Rattle.graph_text.specs.declared.refusal.Why.TheVariants.{NoHeader, BadLine, WrongKind, BadName, TwiceNode, UnknownNode, Loop, ManyNodes, ManyLines, NoNode, NoEnd}
+use Rattle.problem_defs.specs.Meets.{HasObject}
+use Rattle.problem_defs.specs.declared.ask.Ask.{Ask}
+use Rattle.problem_defs.specs.declared.ask.Ask.TheVariants.{Flow, CutTree, Augment, AugmentArcs, Arborescences, Trees, Forests, Orient, Dijoin}
+use Rattle.problem_defs.specs.declared.cert.Body.{Body}
+use Rattle.problem_defs.specs.declared.cert.Body.TheVariants.{Tree, Turned, Walks, Edges, Arcs, Parts, Join, Never}
+use Rattle.connect_run.specs.FaultCase.{fault_status}
+use Rattle.connect_run.specs.SolvedCase.{verdict}
+use Rattle.connect_run.specs.Answer.{IsAnswer}
+use Rattle.connect_run.specs.Run.{Writes, WritesWhole}
+use Rattle.connect_run.specs.declared.status.Status.{Status}
+use Rattle.connect_run.specs.declared.status.Status.TheVariants.{Done, Impossible, Rejected, BadWords, BadGraph, TooLarge, Unsuited, ReadFault, WriteFault, NoMemory}
+
+-- a status that an answer may have
+abbrev pub is_told : Status → Bool
+is_told ReadFault = false
+is_told WriteFault = false
+is_told NoMemory = false
+is_told status = true
+
+pub fault-told : (why : Why) → is_told (fault_status why) ≡ true
+fault-told ManyNodes = refl
+fault-told ManyLines = refl
+fault-told why = refl
+
+verdict-told : (body : Body) → is_told (verdict body) ≡ true
+verdict-told (Never side) = refl
+verdict-told body = refl
+
+-- no answer to a command is impossible yet: each body that answers its ask has an object
+pub verdict-done : (g : GraphValue) (ask : Ask) (body : Body) → HasObject g ask body → verdict body ≡ Done
+verdict-done g (Flow s t) (Walks value rows cut) object = refl
+verdict-done g CutTree (Tree pairs) object = refl
+verdict-done g ask body object = absurd object
+
+pub answer-told : (words : List (List ℕ)) (input text : List ℕ) (status : Status) → IsAnswer words input text status → is_told status ≡ true
+answer-told words input text status (inl bad) = ap is_told bad.status_is
+answer-told words input text status (inr (command, commands, inl long)) = ap is_told long.status_is
+answer-told words input text status (inr (command, commands, inr (short, inl fault))) = ap is_told fault.status_is ∙ fault-told fault.why
+answer-told words input text status (inr (command, commands, inr (short, inr (g, reads, (ask, asks, inl unsuited))))) = ap is_told unsuited.status_is
+answer-told words input text status (inr (command, commands, inr (short, inr (g, reads, (ask, asks, inr solved))))) = ap is_told solved.status_is ∙ verdict-told solved.cert.body
+
+module _ (words : List (List ℕ)) (left old new : Option (List ℕ)) where
+  -- an answer that is written whole is what its status says
+  pub whole-writes : (status : Status) → is_told status ≡ true → WritesWhole words left old new status → Writes words left old new status
+  whole-writes ReadFault told whole = absurd cc
+  whole-writes WriteFault told whole = absurd cc
+  whole-writes NoMemory told whole = absurd cc
+  whole-writes status told whole = whole
+
+  -- and the other way round, unless a fault came or memory ran out
+  pub writes-whole : (status : Status) → Writes words left old new status → ((status ≡ ReadFault) ⊎ (status ≡ WriteFault) ⊎ (status ≡ NoMemory)) ⊎ WritesWhole words left old new status
+  writes-whole ReadFault writes = inl (inl refl)
+  writes-whole WriteFault writes = inl (inr (inl refl))
+  writes-whole NoMemory writes = inl (inr (inr refl))
+  writes-whole status writes = inr writes

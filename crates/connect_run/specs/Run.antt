@@ -1,0 +1,62 @@
+-- What a run does to its source and its sink.
+use Rattle.std.specs.Prelude.{ℕ, ◌≡◌, ◌≤◌, ◌⊎◌, List, None, Some, length, IfSome}
+use Rattle.std.specs.declared.option.Option.{Option}
+use Rattle.std.specs.Io.KnownBytes.{Keeps, Appends, IsAtEnd}
+use Rattle.cn_edge.specs.Whole.{AppendsPart}
+use Rattle.graph_core.specs.Graph.{GraphValue}
+use Rattle.graph_text.specs.Reading.{IsTextAlone}
+use Rattle.connect_words.specs.Asks.{asked}
+use Rattle.connect_words.specs.declared.command.Command.{Command}
+use Rattle.problem_defs.specs.Ask.{misfit_of}
+use Rattle.problem_defs.specs.declared.ask.Ask.{Ask}
+use Rattle.connect_run.specs.Built.{Commands}
+use Rattle.connect_run.specs.LargeCase.{limit}
+use Rattle.connect_run.specs.Answer.{IsAnswer}
+use Rattle.connect_run.specs.declared.status.Status.{Status}
+use Rattle.connect_run.specs.declared.status.Status.TheVariants.{Done, Impossible, Rejected, BadWords, BadGraph, TooLarge, Unsuited, ReadFault, WriteFault, NoMemory}
+
+-- an answer to what the source had left, where it tells it, and else to some input
+abbrev pub AnswersLeft : List (List ℕ) → Option (List ℕ) → List ℕ → Status → Type 0
+AnswersLeft words left text status = (input : List ℕ) × IfSome left (λ bytes. input ≡ bytes) × IsAnswer words input text status
+
+-- the whole answer is written
+abbrev pub WritesWhole : List (List ℕ) → Option (List ℕ) → Option (List ℕ) → Option (List ℕ) → Status → Type 0
+WritesWhole words left old new status = (text : List ℕ) × AnswersLeft words left text status × Appends old new text
+
+-- a part of an answer is written that isn't the whole
+abbrev pub WritesPart : List (List ℕ) → Option (List ℕ) → Option (List ℕ) → Option (List ℕ) → Type 0
+WritesPart words left old new = (text : List ℕ) × (status : Status) × AnswersLeft words left text status × AppendsPart old new text
+
+-- What is written, by the status.
+abbrev pub Writes : List (List ℕ) → Option (List ℕ) → Option (List ℕ) → Option (List ℕ) → Status → Type 0
+Writes words left old new ReadFault = Keeps old new
+Writes words left old new WriteFault = WritesPart words left old new
+Writes words left old new NoMemory = Keeps old new
+Writes words left old new status = WritesWhole words left old new status
+
+-- a run that reads leaves no byte of an input that isn't too long
+abbrev pub Drains : Option (List ℕ) → Option (List ℕ) → Type 0
+Drains old new = IfSome old (λ bytes. length bytes ≤ limit → IsAtEnd new)
+
+-- the status is this one, unless a fault came or memory ran out
+abbrev pub Ends : Status → Status → Type 0
+Ends result status = (result ≡ status) ⊎ (result ≡ ReadFault) ⊎ (result ≡ WriteFault) ⊎ (result ≡ NoMemory)
+
+-- each answer that the words and the input have has this status, unless a fault came or memory ran out
+abbrev pub IsExact : List (List ℕ) → List ℕ → Status → Type 0
+IsExact words input result = (text : List ℕ) (status : Status) → IsAnswer words input text status → Ends result status
+
+-- What a run that has to succeed is given: a command, an input within the limits that is a graph text, and an ask that suits the graph.
+pub record CanBeSolved (words : List (List ℕ)) (input : List ℕ) : Type 0 where
+  pub command : Command
+  pub commands : Commands words command
+  pub short : length input ≤ limit
+  pub g : GraphValue
+  pub reads : IsTextAlone input g
+  pub ask : Ask
+  pub asks : asked g words command ≡ Some ask
+  pub suits : misfit_of g ask ≡ None
+
+-- it does succeed, unless a fault came or memory ran out
+abbrev pub IsComplete : List (List ℕ) → List ℕ → Status → Type 0
+IsComplete words input result = CanBeSolved words input → Ends result Done

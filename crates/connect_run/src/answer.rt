@@ -1,0 +1,113 @@
+ghost use Rattle.std.specs.Prelude.{◌≡◌, ◌⊎◌, Some, None, true, map, string_bytes, IfOk};
+ghost use Rattle.cn_edge.specs.Causes.{CountsFault};
+ghost use Rattle.graph_core.specs.Graph.{IsWithinSize};
+ghost use Rattle.problem_defs.specs.Ask.{misfit_of, KIsInRange};
+ghost use Rattle.problem_defs.specs.declared.ask.Ask.{Ask as AskValue};
+ghost use Rattle.problem_defs.specs.declared.ask.Misfit.{Misfit as MisfitValue};
+ghost use Rattle.connect_words.specs.Asks.{asked};
+ghost use Rattle.connect_run.specs.Built.{Commands, is_solved};
+ghost use Rattle.connect_run.specs.Answer.{AnswersGraph, AnswersInput};
+ghost use Rattle.connect_run.specs.SolvedCase.{verdict, AnswersSolved};
+ghost use Rattle.connect_run.specs.Saying.{Says, Replies};
+
+use crate::lines::{fault_line, unsuited_line};
+use crate::{Status, solve};
+use certificate_text::write_cert;
+use cn_edge::{Sink, write_all};
+use connect_words::{Command, ask_of};
+use graph_core::{Graph, NoMemory};
+use graph_text::{GraphRefusal, read_graph_alone};
+use problem_defs::{Ask, Body, Cert};
+use std::alloc::Global;
+
+// The text of a certificate, and its status.
+#[derive(Drop)]
+struct SolvedText {
+    status: Status,
+    text: Vec<u8>,
+}
+
+/// Writes the text, and answers the status where it was written whole.
+pub fn say<K: Sink>(sink: &mut K, status: Status, text: &[u8]) -> Status
+    requires { status ≡ Status.WriteFault → ⊥ }
+    ensures said { Says (K.written sink.old) (K.written sink.new) text.now status result }
+    ensures write { result ≡ Status.WriteFault → CountsFault (K.faults sink.old) (K.faults sink.new) }
+{
+    match write_all(sink, text) {
+        Ok(()) => status,
+        Err(_) => Status::WriteFault,
+    }
+}
+
+/// Answers an input that isn't too long.
+pub fn reply<K: Sink>(
+    alloc: Global,
+    command: &Command,
+    words: &[String],
+    input: &[u8],
+    sink: &mut K,
+) -> Status
+    requires { Commands (map string_bytes words.now) command.now }
+    ensures replies { Replies (AnswersInput command.now (map string_bytes words.now) input.now) (K.written sink.old) (K.written sink.new) result }
+    ensures write { result ≡ Status.WriteFault → CountsFault (K.faults sink.old) (K.faults sink.new) }
+{
+    match read_graph_alone(alloc, input) {
+        Ok(graph) => reply_to_graph(alloc, command, words, &graph, sink),
+        Err(GraphRefusal::Fault { line, why }) => {
+            let (status, text) = fault_line(line, why);
+            say(sink, status, text.as_slice())
+        }
+        Err(GraphRefusal::NoMemory) => Status::NoMemory,
+    }
+}
+
+// Answers a graph. That the ask doesn't suit it is told whether or not memory is left.
+fn reply_to_graph<K: Sink>(
+    alloc: Global,
+    command: &Command,
+    words: &[String],
+    graph: &Graph,
+    sink: &mut K,
+) -> Status
+    requires commands { Commands (map string_bytes words.now) command.now }
+    requires size { IsWithinSize graph.now }
+    ensures replies { Replies (AnswersGraph command.now (map string_bytes words.now) graph.now) (K.written sink.old) (K.written sink.new) result }
+    ensures write { result ≡ Status.WriteFault → CountsFault (K.faults sink.old) (K.faults sink.new) }
+    ensures unsuited { (ask : AskValue) (misfit : MisfitValue) → asked graph.now (map string_bytes words.now) command.now ≡ Some ask
+        → misfit_of graph.now ask ≡ Some misfit → (result ≡ Status.Unsuited) ⊎ (result ≡ Status.WriteFault) }
+{
+    match ask_of(graph, command, words) {
+        Ok(ask) => match solution(alloc, graph, &ask) {
+            Ok(solution) => say(sink, solution.status, &solution.text),
+            Err(NoMemory) => Status::NoMemory,
+        },
+        Err(misfit) => {
+            let text = unsuited_line(misfit);
+            say(sink, Status::Unsuited, text.as_slice())
+        }
+    }
+}
+
+fn solution(alloc: Global, graph: &Graph, ask: &Ask) -> Result<SolvedText, NoMemory>
+    requires size { IsWithinSize graph.now }
+    requires built { is_solved ask.now ≡ true }
+    requires k { KIsInRange ask.now }
+    requires suits { misfit_of graph.now ask.now ≡ None }
+    ensures { IfOk result (λ found. AnswersSolved graph.now ask.now found.text.items found.status) }
+{
+    let cert = solve(alloc, graph, ask)?;
+    let text = write_cert(alloc, graph, &cert)?;
+    Ok(SolvedText {
+        status: verdict(&cert),
+        text,
+    })
+}
+
+fn verdict(cert: &Cert) -> Status
+    ensures { result ≡ verdict cert.now.body }
+{
+    match cert.body {
+        Body::Never(_) => Status::Impossible,
+        _ => Status::Done,
+    }
+}
