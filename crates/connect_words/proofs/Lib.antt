@@ -1,2 +1,5 @@
 pub mod NumberLemmas
 pub mod CommandLemmas
+pub mod VerbLemmas
+pub mod PlaceLemmas
+pub mod ReaderLemmas

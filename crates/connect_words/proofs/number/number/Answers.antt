@@ -9,7 +9,7 @@ returns-then-not-is_plain-clause-absent c n small same =
 pub returns-in-Ok-clause-found : goal.returns-in-Ok-clause-found
 returns-in-Ok-clause-found c =
     let plain = rw c.as_bytes.ensures.value at c.if-not-is_plain.ensures.0 refl in
-    read-decimal _ c.args.word.now c.in-Ok.number c.in-Ok.ensures.value.0 plain.0 plain.1
+    read-decimal c.args.word.now c.in-Ok.number c.in-Ok.ensures.value.0 plain.0 plain.1
 
 pub returns-in-Err-clause-absent : goal.returns-in-Err-clause-absent
 returns-in-Err-clause-absent c = unread-decimal _ c.args.word.now c.in-Err.field-0 c.in-Err.ensures.value.0
