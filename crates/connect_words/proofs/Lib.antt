@@ -3,3 +3,5 @@ pub mod CommandLemmas
 pub mod VerbLemmas
 pub mod PlaceLemmas
 pub mod ReaderLemmas
+pub mod AskLemmas
+pub mod MeaningLemmas

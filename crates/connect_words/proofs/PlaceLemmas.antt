@@ -15,7 +15,7 @@ use Rattle.connect_words.proofs.CommandLemmas.{writes_slots, some_command}
 use Rattle.connect_words.proofs.VerbLemmas.{verb_word_injective}
 
 -- each command has a word
-writes_some : (command : Command) → Writes command [] → ⊥
+pub writes_some : (command : Command) → Writes command [] → ⊥
 writes_some Flow h = h.fill
 writes_some CutTree h = h.fill
 writes_some (Augment k) h = h.fill

@@ -1,5 +1,5 @@
 -- The table of commands: which words write which command.
-use Rattle.std.specs.Prelude.{◌≡◌, ℕ, ◌-◌, ◌^◌, ◌≤◌, List, [], ◌∷◌, Option, Some, None, ⊤, codes}
+use Rattle.std.specs.Prelude.{◌≡◌, ◌≢◌, ℕ, ◌-◌, ◌^◌, ◌≤◌, List, [], ◌∷◌, Option, Some, None, ⊤, codes}
 use Rattle.std.specs.Fmt.{decimal}
 use Rattle.problem_defs.specs.Ask.{IsK}
 use Rattle.connect_words.specs.declared.command.Command.{Command}
@@ -73,8 +73,6 @@ pub record Writes (command : Command) (words : List (List ℕ)) : Type 0 where
   pub limits : IsWithinLimits command
   pub fill : Fill (places command) words
 
--- the command solves a problem on the graph that is read
+-- the command asks something of the graph that is read: it is neither `check` nor `trial`
 abbrev pub Solves : Command → Type 0
-Solves Check = ⊥
-Solves (Trial kind nodes number) = ⊥
-Solves _ = ⊤
+Solves command = (command ≢ Check) × ((kind : TrialKind) (nodes number : ℕ) → command ≢ Trial kind nodes number)
