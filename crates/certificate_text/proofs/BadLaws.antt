@@ -7,11 +7,12 @@ use Rattle.problem_defs.specs.declared.cert.Cert.{Cert}
 use Rattle.certificate_text.specs.declared.line.CertLine.{CertLine}
 use Rattle.certificate_text.specs.declared.line.CertLine.TheVariants as line
 use Rattle.certificate_text.specs.Words.{spelled}
-use Rattle.certificate_text.specs.Lines.{IsValid, lines}
+use Rattle.certificate_text.specs.Valid.{IsValid, ValidAll}
+use Rattle.certificate_text.specs.Lines.{lines}
 use Rattle.problem_defs.specs.Shaped.{IsShaped}
-use Rattle.certificate_text.specs.Accepts.{ValidAll}
 use Rattle.certificate_text.specs.Allowed.{IsAllowed, BeginsLines, NoEnd}
-use Rattle.certificate_text.specs.Text.{unlines, byte_lines, text, Begins, whole_lines, IsBad}
+use Rattle.certificate_text.specs.Text.{unlines, byte_lines, text}
+use Rattle.certificate_text.specs.BadLine.{Begins, whole_lines, IsBad}
 use Rattle.certificate_text.specs.Reading.{HasRead, MayNotCome, Stops}
 use Rattle.certificate_text.proofs.FormLaws.{valid-split}
 use Rattle.certificate_text.proofs.ValidLaws.{valid-lines}
@@ -50,7 +51,7 @@ begins-take g xs n rest b within =
     let cut : take n (all ++ rest) ≡ take n all = take-append-le n all rest within' in
     let whole : byte_lines g b.cert ≡ all ++ map (spelled g) b.more = ap (map (spelled g)) b.is ∙ map-append (spelled g) xs b.more in
     let parts : all ++ map (spelled g) b.more ≡ take n all ++ (drop n all ++ map (spelled g) b.more) = ap (λ l. l ++ map (spelled g) b.more) (sym (take-append-drop n all)) ∙ append_assoc (take n all) (drop n all) (map (spelled g) b.more) in
-    subst (Begins g) (sym cut) (record { cert = b.cert; writable = b.writable; more = drop n all ++ map (spelled g) b.more; is = whole ∙ parts })
+    subst (Begins g) (sym cut) (record { cert = b.cert; shaped = b.shaped; more = drop n all ++ map (spelled g) b.more; is = whole ∙ parts })
 
 -- with one more line it is no beginning
 no-more : (g : GraphValue) (xs : List CertLine) (rest : List (List ℕ)) → IsGraph g → ValidAll g xs → NoEnd xs → Stops g xs rest → length xs + 1 ≤ length (map (spelled g) xs ++ rest) → Begins g (take (length xs + 1) (map (spelled g) xs ++ rest)) → ⊥
@@ -60,7 +61,7 @@ no-more g xs (l ∷ more) is valid none stops within b =
     let long : length all ≡ length xs = length-map xs (spelled g) in
     let cut : take (length xs + 1) (all ++ l ∷ more) ≡ all ++ l ∷ [] = ap (λ n. take (n + 1) (all ++ l ∷ more)) (sym long) ∙ take-append-add all (l ∷ more) 1 in
     let same : map (spelled g) (lines g b.cert) ++ [] ≡ all ++ l ∷ b.more = append-nil (byte_lines g b.cert) ∙ b.is ∙ ap (λ x. x ++ b.more) cut ∙ append_assoc all (l ∷ []) b.more in
-    no-certificate g xs [] (l ∷ b.more) b.cert is b.writable valid none stops same
+    no-certificate g xs [] (l ∷ b.more) b.cert is b.shaped valid none stops same
 
 pub is-bad : (g : GraphValue) (bytes : List ℕ) (xs : List CertLine) (rest : List ℕ) → IsGraph g → HasRead g bytes xs rest → Stops g xs (whole_lines rest) → IsBad g bytes (length xs + 1)
 is-bad g bytes xs rest is read stops =

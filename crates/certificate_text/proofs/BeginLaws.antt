@@ -19,9 +19,11 @@ use Rattle.certificate_text.specs.Table.{rows, augment_kind}
 use Rattle.certificate_text.specs.declared.row.Slot.{Slot}
 use Rattle.certificate_text.specs.declared.row.Slot.TheVariants.{Must, May}
 use Rattle.certificate_text.specs.Machine.{musts, slots, Fits, step, run}
-use Rattle.certificate_text.specs.Lines.{IsValid, fits, joins, no_line, sample, lines, body_lines}
+use Rattle.certificate_text.specs.Valid.{IsValid, ValidAll}
+use Rattle.certificate_text.specs.Fits.{fits, joins, no_line, sample}
+use Rattle.certificate_text.specs.Lines.{lines, body_lines}
 use Rattle.problem_defs.specs.Shaped.{IsShaped}
-use Rattle.certificate_text.specs.Accepts.{SomeRow, Accepts, ValidAll}
+use Rattle.certificate_text.specs.Accepts.{SomeRow, Accepts}
 use Rattle.certificate_text.specs.Allowed.{GoesOn, IsAllowed, BeginsLines}
 use Rattle.certificate_text.proofs.MachineLaws.{run-append, fill, CanFill, completed, run-can_fill}
 use Rattle.certificate_text.proofs.FormLaws.{valid-join, kind-is}
@@ -171,7 +173,7 @@ begins-rest g x zs is k suits valid goes_on =
     let b = has-body g x (zs ++ c.more) (valid-join g zs c.more valid c.valid) c.takes in
     record {
       cert = record { ask = x; body = b.body };
-      writable = record { k = k; suits = suits; belongs = b.belongs; in_range = b.in_range; numbers_fit = b.numbers_fit };
+      shaped = record { k = k; suits = suits; belongs = b.belongs; in_range = b.in_range; numbers_fit = b.numbers_fit };
       more = c.more;
       is = ap (λ l. line.Title ∷ line.Command x ∷ l) b.lines_are;
     }
@@ -180,16 +182,16 @@ pub allowed-begins : (g : GraphValue) (xs : List CertLine) → IsGraph g → Val
 allowed-begins g [] is valid allowed =
     let s = some-ask g in
     let b = begins-rest g s.ask [] is s.k s.suits tt (some-row g s.ask) in
-    record { cert = b.cert; writable = b.writable; more = line.Title ∷ line.Command s.ask ∷ b.more; is = b.is }
+    record { cert = b.cert; shaped = b.shaped; more = line.Title ∷ line.Command s.ask ∷ b.more; is = b.is }
 allowed-begins g (x ∷ []) is valid allowed =
     let s = some-ask g in
     let b = begins-rest g s.ask [] is s.k s.suits tt (some-row g s.ask) in
-    record { cert = b.cert; writable = b.writable; more = line.Command s.ask ∷ b.more; is = b.is ∙ ap (λ t. t ∷ line.Command s.ask ∷ b.more) (sym allowed) }
+    record { cert = b.cert; shaped = b.shaped; more = line.Command s.ask ∷ b.more; is = b.is ∙ ap (λ t. t ∷ line.Command s.ask ∷ b.more) (sym allowed) }
 allowed-begins g (x ∷ y ∷ zs) is valid allowed =
     let (title, (a, command, goes_on)) = allowed in
     let ok = subst (IsValid g) command valid.1.0 in
     let b = begins-rest g a zs is ok.0 ok.1 valid.1.1 goes_on in
-    record { cert = b.cert; writable = b.writable; more = b.more; is = b.is ∙ (λ i. sym title i ∷ sym command i ∷ (zs ++ b.more)) }
+    record { cert = b.cert; shaped = b.shaped; more = b.more; is = b.is ∙ (λ i. sym title i ∷ sym command i ∷ (zs ++ b.more)) }
 
 front-runs : (fits : Fits) (left : List Slot) (xs more : List CertLine) → run fits left (xs ++ more) ≡ Some [] → (after : List Slot) × (run fits left xs ≡ Some after)
 front-runs fits left xs more e = by (run fits left xs) refl (sym (run-append fits left xs more) ∙ e)

@@ -7,7 +7,8 @@ use Rattle.graph_core.specs.declared.graph.Kind.TheVariants.{Undirected}
 use Rattle.problem_defs.specs.declared.ask.Ask.TheVariants as ask
 use Rattle.problem_defs.specs.declared.cert.Body.TheVariants as body
 use Rattle.problem_defs.specs.declared.cert.Cert.{Cert}
-use Rattle.certificate_text.specs.Text.{text, whole_lines}
+use Rattle.certificate_text.specs.Text.{text}
+use Rattle.certificate_text.specs.BadLine.{whole_lines}
 
 abbrev pub path : GraphValue
 path = record {

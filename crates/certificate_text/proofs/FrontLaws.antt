@@ -6,8 +6,8 @@ use Rattle.problem_defs.specs.declared.ask.Ask.{Ask}
 use Rattle.certificate_text.specs.declared.line.CertLine.{CertLine}
 use Rattle.certificate_text.specs.declared.line.CertLine.TheVariants as line
 use Rattle.certificate_text.specs.Words.{spelled}
-use Rattle.certificate_text.specs.Lines.{IsValid}
-use Rattle.certificate_text.specs.Text.{whole_lines, IsBad}
+use Rattle.certificate_text.specs.Valid.{IsValid}
+use Rattle.certificate_text.specs.BadLine.{whole_lines, IsBad}
 use Rattle.certificate_text.specs.Reading.{HasRead, Stops}
 use Rattle.certificate_text.proofs.SpellLaws.{spelled-same}
 use Rattle.certificate_text.proofs.BeginLaws.{some-row}

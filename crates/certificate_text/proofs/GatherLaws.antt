@@ -103,7 +103,7 @@ pub lines-same : (g : GraphValue) (a b : Cert) → IsGraph g → IsShaped g a �
 lines-same g a b is wa wb e =
     let ask : a.ask ≡ b.ask = cc in
     let rest : body_lines g a.ask a.body ≡ body_lines g b.ask b.body = cc in
-    let back = body-back g a.ask a.body is wa.shaped.belongs wa.shaped.in_range in
-    let other = body-back g b.ask b.body is wb.shaped.belongs wb.shaped.in_range in
+    let back = body-back g a.ask a.body is wa.belongs wa.in_range in
+    let other = body-back g b.ask b.body is wb.belongs wb.in_range in
     let body : a.body ≡ b.body = sym back ∙ (λ i. body_of g (ask i) (gather nothing (rest i))) ∙ other in
     λ i. record { ask = ask i; body = body i }

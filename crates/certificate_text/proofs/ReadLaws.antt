@@ -15,14 +15,18 @@ use Rattle.certificate_text.specs.declared.gather.Content.{Content}
 use Rattle.certificate_text.specs.Table.{rows}
 use Rattle.certificate_text.specs.Machine.{slots, Fits, step, run}
 use Rattle.certificate_text.specs.Words.{spelled}
-use Rattle.certificate_text.specs.Lines.{IsValid, fits, lines, body_lines}
+use Rattle.certificate_text.specs.Valid.{IsValid, ValidAll}
+use Rattle.certificate_text.specs.Fits.{fits}
+use Rattle.certificate_text.specs.Lines.{lines, body_lines}
 use Rattle.problem_defs.specs.Shaped.{IsShaped}
-use Rattle.certificate_text.specs.Accepts.{SomeRow, Accepts, ValidAll}
+use Rattle.certificate_text.specs.Accepts.{SomeRow, Accepts}
 use Rattle.certificate_text.specs.Allowed.{GoesOn, IsAllowed, is_end, NoEnd}
-use Rattle.certificate_text.specs.Text.{unlines, text, whole_lines, IsBad}
+use Rattle.certificate_text.specs.Text.{unlines, text}
+use Rattle.certificate_text.specs.BadLine.{whole_lines, IsBad}
 use Rattle.certificate_text.specs.Gather.{nothing, grown, gather, body_of}
 use Rattle.certificate_text.specs.Reading.{HasRead, MayNotCome, Stops}
-use Rattle.certificate_text.specs.Loop.{AreRows, option_list, Reading, IsReading}
+use Rattle.certificate_text.specs.Loop.{AreRows, option_list, Reading}
+use Rattle.certificate_text.specs.Front.{IsAtFront}
 use Rattle.certificate_text.proofs.MachineLaws.{run-append}
 use Rattle.certificate_text.proofs.FormLaws.{valid-join}
 use Rattle.certificate_text.proofs.RowLaws.{has-body}
@@ -211,7 +215,7 @@ reading-next g bytes a first second rest count one two content l more x are r cu
 pub reading-done : (g : GraphValue) (bytes : List ℕ) (a : Ask) (first : List Slot) (second : Option (List Slot)) (rest : List ℕ) (count : ℕ) (one two : Option (List Slot)) (content : Content) (l more : List ℕ) (x : CertLine) → IsGraph g → AreRows g a first second → Reading g bytes a first second rest count one two content → rest ≡ l ++ 10 ∷ more
     → IsValid g x → spelled g x ≡ l
     → (option_and_then (λ left. step (fits g) left x) one ≡ Some []) ⊎ (option_and_then (λ left. step (fits g) left x) two ≡ Some [])
-    → (c : ℕ) → c + length more ≡ length bytes → IsReading g bytes (record { ask = a; body = body_of g a (grown content x) }) c
+    → (c : ℕ) → c + length more ≡ length bytes → IsAtFront g bytes (record { ask = a; body = body_of g a (grown content x) }) c
 reading-done g bytes a first second rest count one two content l more x is are r cut valid same done c counted =
     let zs = r.lines ++ x ∷ [] in
     let f = λ (d : (run (fits g) first zs ≡ Some []) ⊎ (option_and_then (λ row. run (fits g) row zs) second ≡ Some [])). accepts-done g a first second zs are d in
@@ -224,10 +228,10 @@ reading-done g bytes a first second rest count one two content l more x is are r
     let same-body : body_of g a (grown content x) ≡ b.body = ap (body_of g a) gathered ∙ body-back g a b.body is b.belongs b.in_range in
     let found : Cert = record { ask = a; body = b.body } in
     let split : bytes ≡ text g found ++ more = unlines-push g (line.Title ∷ line.Command a ∷ r.lines) x bytes rest l more r.read.split cut same ∙ ap (λ ys. unlines (map (spelled g) (line.Title ∷ line.Command a ∷ ys)) ++ more) (sym b.lines_are) in
-    let here : IsReading g bytes found c = record {
-      writable = record { k = r.read.valid.1.0.0; suits = r.read.valid.1.0.1; belongs = b.belongs; in_range = b.in_range; numbers_fit = b.numbers_fit };
+    let here : IsAtFront g bytes found c = record {
+      shaped = record { k = r.read.valid.1.0.0; suits = r.read.valid.1.0.1; belongs = b.belongs; in_range = b.in_range; numbers_fit = b.numbers_fit };
       rest = more;
       is = split;
       count_is = omega (arith, counted, ap length split, length-append (text g found) more);
     } in
-    subst (λ (y : Body). IsReading g bytes (record { ask = a; body = y }) c) (sym same-body) here
+    subst (λ (y : Body). IsAtFront g bytes (record { ask = a; body = y }) c) (sym same-body) here

@@ -18,9 +18,11 @@ use Rattle.certificate_text.specs.Table.{augment_kind}
 use Rattle.certificate_text.specs.declared.row.Slot.{Slot}
 use Rattle.certificate_text.specs.declared.row.Slot.TheVariants.{Must, May}
 use Rattle.certificate_text.specs.Machine.{musts, run}
-use Rattle.certificate_text.specs.Lines.{IsValid, fits, body_lines, turned_lines, set_lines, no_line}
+use Rattle.certificate_text.specs.Valid.{IsValid, ValidAll}
+use Rattle.certificate_text.specs.Fits.{fits, no_line}
+use Rattle.certificate_text.specs.Lines.{body_lines, turned_lines, set_lines}
 use Rattle.problem_defs.specs.Shaped.{NumbersFit}
-use Rattle.certificate_text.specs.Accepts.{Accepts, ValidAll, HasBody}
+use Rattle.certificate_text.specs.Accepts.{Accepts, HasBody}
 use Rattle.certificate_text.proofs.MachineLaws.{musts-run, musts-parts, must-run}
 use Rattle.certificate_text.proofs.FormLaws.{one, several, nothing-left, pass, value-made, impossible-made, path-made, part-made, join-made, tree-made, edge-made, arc-made, set-made, end-made, dual-made, kind-is, valid-split, MadeBy}
 use Rattle.certificate_text.proofs.TurnedLaws.{turned-heads, turned-fit, length-turned}

@@ -18,7 +18,7 @@ use Rattle.certificate_text.specs.declared.line.CertLine.TheVariants as line
 use Rattle.certificate_text.specs.declared.line.DualKind.{DualKind}
 use Rattle.certificate_text.specs.declared.line.DualKind.TheVariants as kind
 use Rattle.certificate_text.specs.Words.{words, spelled, names_in, name_of, numbers, kind_word, ask_words}
-use Rattle.certificate_text.specs.Lines.{IsValid}
+use Rattle.certificate_text.specs.Valid.{IsValid}
 use Rattle.certificate_text.proofs.WordLaws.{ArePlain, is_ink, split-join, join-no_feed, no_feed, decimal-ink, name-ink}
 
 -- ---- words that differ

@@ -1,6 +1,6 @@
 -- Texts as bytes: one certificate at the front, and the least bad line.
 use Rattle.std.proofs.Common.{◌≡◌, ℕ, zero, suc, ◌+◌, ◌<◌, ◌≤◌, Bool, true, false, List, [], ◌∷◌, ◌++◌, map, length, take, drop, refl, sym, ap, subst, ◌∙◌, append_assoc, append-nil, inl, inr, ◌⊎◌, true≢false, length-append, arith}
-use Rattle.std.proofs.lemmas.List.{length-map, map-append, take_at, take-append-le}
+use Rattle.std.proofs.lemmas.List.{length-map, map-append, take_at, take-append-le, append_cancel_left}
 use Rattle.std.specs.Prelude.{codes}
 use Rattle.graph_core.specs.Graph.{GraphValue, IsGraph}
 use Rattle.problem_defs.specs.declared.ask.Ask.{Ask}
@@ -14,11 +14,13 @@ use Rattle.certificate_text.specs.declared.line.CertLine.{CertLine}
 use Rattle.certificate_text.specs.declared.line.CertLine.TheVariants as line
 use Rattle.certificate_text.specs.declared.line.DualKind.TheVariants as kind
 use Rattle.certificate_text.specs.Words.{spelled}
-use Rattle.certificate_text.specs.Lines.{IsValid, body_lines, lines, turned_lines, set_lines, parts_lines, way_kind, edges_kind, never_kind}
+use Rattle.certificate_text.specs.Valid.{IsValid, ValidAll}
+use Rattle.certificate_text.specs.Lines.{body_lines, lines, turned_lines, set_lines, parts_lines, way_kind, edges_kind, never_kind}
 use Rattle.problem_defs.specs.Shaped.{IsShaped}
-use Rattle.certificate_text.specs.Accepts.{ValidAll}
 use Rattle.certificate_text.specs.Allowed.{IsAllowed, BeginsLines, is_end, NoEnd}
-use Rattle.certificate_text.specs.Text.{unlines, byte_lines, text, Begins, whole_lines, IsBad}
+use Rattle.certificate_text.specs.Front.{IsAtFront}
+use Rattle.certificate_text.specs.Text.{unlines, byte_lines, text}
+use Rattle.certificate_text.specs.BadLine.{Begins, whole_lines, IsBad}
 use Rattle.certificate_text.proofs.FormLaws.{valid-split}
 use Rattle.certificate_text.proofs.WordLaws.{NoFeeds, whole-unlines}
 use Rattle.certificate_text.proofs.SpellLaws.{spelled-same, spelled-no_feed}
@@ -144,3 +146,13 @@ one-certificate g a b r s is wa wb e =
       | front ys p ↦ lines-same g a b is wa wb (sym (p ∙ ap (λ l. lines g a ++ l) (lines-front g a b ys p) ∙ append-nil (lines g a)))
       | longer y ys more p q ↦ absurd (cons-nil y ys (lines-front g b a (y ∷ ys) p))
     ]
+
+pub no-prefix : (g : GraphValue) (a b : Cert) (more : List ℕ) → IsGraph g → IsShaped g a → IsShaped g b → text g b ≡ text g a ++ more → more ≡ []
+no-prefix g a b more is wa wb e =
+    let same = one-certificate g b a [] more is wb wa (append-nil (text g b) ∙ e) in
+    append_cancel_left (text g a) more [] (sym e ∙ ap (text g) same ∙ sym (append-nil (text g a)))
+
+pub found-back : (g : GraphValue) (cert found : Cert) (rest : List ℕ) (count : ℕ) → IsGraph g → IsShaped g cert → IsAtFront g (text g cert ++ rest) found count → (found ≡ cert) × (count ≡ length (text g cert))
+found-back g cert found rest count is w f =
+    let same = one-certificate g found cert f.rest rest is f.shaped w (sym f.is) in
+    (same, f.count_is ∙ ap (λ x. length (text g x)) same)

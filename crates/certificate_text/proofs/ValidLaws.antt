@@ -13,9 +13,9 @@ use Rattle.problem_defs.specs.declared.cert.PartsDual.TheVariants as parts
 use Rattle.problem_defs.specs.declared.cert.Cert.{Cert}
 use Rattle.certificate_text.specs.declared.line.CertLine.{CertLine}
 use Rattle.certificate_text.specs.declared.line.CertLine.TheVariants as line
-use Rattle.certificate_text.specs.Lines.{IsValid, body_lines, lines, turned_line, turned_lines, set_lines, parts_lines, way_kind, edges_kind, never_kind}
+use Rattle.certificate_text.specs.Valid.{IsValid, ValidAll}
+use Rattle.certificate_text.specs.Lines.{body_lines, lines, turned_line, turned_lines, set_lines, parts_lines, way_kind, edges_kind, never_kind}
 use Rattle.problem_defs.specs.Shaped.{NumbersFit, IsShaped}
-use Rattle.certificate_text.specs.Accepts.{ValidAll}
 use Rattle.certificate_text.proofs.FormLaws.{valid-map, valid-join}
 
 valid-turned : (g : GraphValue) (ls : List Line) (heads : List Bool) → All (Fits (length g.names)) ls → ValidAll g (turned_lines ls heads)

@@ -9,7 +9,9 @@ use Rattle.certificate_text.specs.declared.row.Piece.{Piece}
 use Rattle.certificate_text.specs.Table.{rows}
 use Rattle.certificate_text.specs.declared.row.Slot.{Slot}
 use Rattle.certificate_text.specs.Machine.{slots, run}
-use Rattle.certificate_text.specs.Lines.{IsValid, fits, body_lines}
+use Rattle.certificate_text.specs.Valid.{IsValid}
+use Rattle.certificate_text.specs.Fits.{fits}
+use Rattle.certificate_text.specs.Lines.{body_lines}
 use Rattle.problem_defs.specs.Shaped.{NumbersFit}
 
 -- one of these rows has the property
@@ -20,10 +22,6 @@ SomeRow P (row ∷ rows) = P row ⊎ SomeRow P rows
 -- a row of the command takes these lines, and is then at its end
 abbrev pub Accepts : GraphValue → Ask → List CertLine → Type 0
 Accepts g ask xs = SomeRow (λ row. run (fits g) (slots (length g.lines) row) xs ≡ Some []) (rows ask)
-
-abbrev pub ValidAll : GraphValue → List CertLine → Type 0
-ValidAll g [] = Unit {0}
-ValidAll g (x ∷ xs) = IsValid g x × ValidAll g xs
 
 -- a body of the command, of which these are the lines
 pub record HasBody (g : GraphValue) (ask : Ask) (xs : List CertLine) : Type 0 where

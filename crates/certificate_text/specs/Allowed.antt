@@ -9,7 +9,8 @@ use Rattle.certificate_text.specs.declared.row.Piece.{Piece}
 use Rattle.certificate_text.specs.Table.{rows}
 use Rattle.certificate_text.specs.declared.row.Slot.{Slot}
 use Rattle.certificate_text.specs.Machine.{slots, run}
-use Rattle.certificate_text.specs.Lines.{fits, lines}
+use Rattle.certificate_text.specs.Fits.{fits}
+use Rattle.certificate_text.specs.Lines.{lines}
 use Rattle.problem_defs.specs.Shaped.{IsShaped}
 use Rattle.certificate_text.specs.Accepts.{SomeRow}
 
@@ -26,7 +27,7 @@ IsAllowed g (x ∷ y ∷ zs) = (x ≡ line.Title) × ((ask : Ask) × (y ≡ line
 -- These lines begin those of a certificate.
 pub record BeginsLines (g : GraphValue) (xs : List CertLine) : Type 0 where
   pub cert : Cert
-  pub writable : IsShaped g cert
+  pub shaped : IsShaped g cert
   pub more : List CertLine
   pub is : lines g cert ≡ xs ++ more
 

@@ -10,7 +10,7 @@ use Rattle.certificate_text.specs.declared.row.Slot.{Slot}
 use Rattle.certificate_text.specs.declared.gather.Content.{Content}
 use Rattle.certificate_text.specs.Table.{rows}
 use Rattle.certificate_text.specs.Machine.{slots, run}
-use Rattle.certificate_text.specs.Lines.{fits}
+use Rattle.certificate_text.specs.Fits.{fits}
 use Rattle.problem_defs.specs.Shaped.{IsShaped}
 use Rattle.certificate_text.specs.Text.{text}
 use Rattle.certificate_text.specs.Gather.{nothing, gather}
@@ -31,10 +31,3 @@ pub record Reading (g : GraphValue) (bytes : List ℕ) (ask : Ask) (first : List
   pub one_is : one ≡ run (fits g) first lines
   pub two_is : two ≡ option_and_then (λ row. run (fits g) row lines) second
   pub content_is : content ≡ gather nothing lines
-
--- The bytes begin with the text of the certificate, which has so many bytes.
-pub record IsReading (g : GraphValue) (bytes : List ℕ) (cert : Cert) (count : ℕ) : Type 0 where
-  pub writable : IsShaped g cert
-  pub rest : List ℕ
-  pub is : bytes ≡ text g cert ++ rest
-  pub count_is : count ≡ length (text g cert)

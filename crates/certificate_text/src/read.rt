@@ -5,18 +5,20 @@ ghost use Rattle.certificate_text.specs.declared.line.CertLine.{CertLine};
 ghost use Rattle.certificate_text.specs.declared.line.CertLine.TheVariants.{Title, Command};
 ghost use Rattle.problem_defs.specs.declared.ask.Ask as asks;
 ghost use Rattle.certificate_text.specs.Words.{spelled};
-ghost use Rattle.certificate_text.specs.Lines.{IsValid};
+ghost use Rattle.certificate_text.specs.Valid.{IsValid};
 ghost use Rattle.certificate_text.specs.Places.{view};
 ghost use Rattle.certificate_text.specs.Reading.{HasRead};
-ghost use Rattle.certificate_text.specs.Loop.{AreRows, IsReading};
+ghost use Rattle.certificate_text.specs.Loop.{AreRows};
+ghost use Rattle.certificate_text.specs.Front.{IsAtFront};
 ghost use Rattle.certificate_text.specs.Refusal.{IsRefused};
 
 use crate::body::make_body;
 use crate::gather::{empty_content, take};
-use crate::place::{is_done, is_lost, next_place};
+use crate::place::{Place, is_done, is_lost, next_place};
 use crate::tables::{first_row, second_row, slots};
 use crate::text_lines::whole_line;
-use crate::{CertLine, Place, Slot};
+use crate::line::CertLine;
+use crate::row::Slot;
 use graph_core::{Graph, NoMemory};
 use problem_defs::{Ask, Cert};
 use std::alloc::Global;
@@ -61,7 +63,7 @@ fn read_rest<'a>(
 ) -> Result<(Cert, usize), CertRefusal>
     requires rows_are { (row : List Slot) × (view first ≡ Some row) × AreRows graph.now ask row (view second) }
     requires begun { HasRead graph.now bytes.now (Title ∷ Command ask ∷ []) after.now }
-    ensures ok { IfOk result (λ found. IsReading graph.now bytes.now found.0 found.1) }
+    ensures ok { IfOk result (λ found. IsAtFront graph.now bytes.now found.0 found.1) }
     ensures bad { IfErr result (IsRefused graph.now bytes.now) }
 {
     graph.known();
@@ -106,7 +108,7 @@ fn read_rows(
     after: &[u8],
 ) -> Result<(Cert, usize), CertRefusal>
     requires begun { HasRead graph.now bytes.now (Title ∷ Command ask ∷ []) after.now }
-    ensures ok { IfOk result (λ found. IsReading graph.now bytes.now found.0 found.1) }
+    ensures ok { IfOk result (λ found. IsAtFront graph.now bytes.now found.0 found.1) }
     ensures bad { IfErr result (IsRefused graph.now bytes.now) }
 {
     let m = graph.line_count();
@@ -155,7 +157,7 @@ fn command_of(found: &Option<CertLine>) -> Option<Ask>
 
 /// The certificate whose text is at the front of the bytes, and how many bytes its text has.
 pub fn read_cert(alloc: Global, graph: &Graph, bytes: &[u8]) -> Result<(Cert, usize), CertRefusal>
-    ensures ok { IfOk result (λ found. IsReading graph.now bytes.now found.0 found.1) }
+    ensures ok { IfOk result (λ found. IsAtFront graph.now bytes.now found.0 found.1) }
     ensures bad { IfErr result (IsRefused graph.now bytes.now) }
 {
     graph.known();

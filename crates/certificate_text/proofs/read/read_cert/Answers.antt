@@ -1,6 +1,6 @@
 use Rattle.std.proofs.Common.{◌≡◌, ◌++◌, ◌∷◌, [], None, Some, Option, rules}
 use Rattle.certificate_text.specs.declared.line.CertLine.TheVariants.{Title, Command}
-use Rattle.certificate_text.specs.Text.{whole_lines}
+use Rattle.certificate_text.specs.BadLine.{whole_lines}
 use Rattle.certificate_text.specs.Reading.{HasRead}
 use Rattle.certificate_text.proofs.FrontLaws.{bad-empty, bad-title, read-title, bad-one, bad-command, read-command}
 use Rattle.certificate_text.proofs.read.read_cert.Goals as goal
@@ -36,4 +36,4 @@ read_rows-requires c =
     let title : c.in-Ok.title ≡ Some Title = c.is_title.ensures.0 (search rules) in
     let begun = read-title c.args.graph.now c.args.bytes.now c.in-Some.first.now c.in-Some.after.now c.in-Ok.title c.in-Ok.ensures title cut in
     let cut' : c.in-Some.after.now ≡ c.in-Some-whole_line.second.now ++ 10 ∷ c.in-Some-whole_line.rest.now = search rules in
-    read-command c.args.graph.now c.args.bytes.now c.in-Some.after.now c.in-Some-whole_line.second.now c.in-Some-whole_line.rest.now c.in-Ok-read_line.command c.in-Some-command_of.ask begun c.in-Ok-read_line.ensures c.in-Some-command_of.ensures cut'
+    record { begun = read-command c.args.graph.now c.args.bytes.now c.in-Some.after.now c.in-Some-whole_line.second.now c.in-Some-whole_line.rest.now c.in-Ok-read_line.command c.in-Some-command_of.ask begun c.in-Ok-read_line.ensures c.in-Some-command_of.ensures cut' }

@@ -3,12 +3,14 @@ use Rattle.std.specs.Option.{option_and_then}
 use Rattle.problem_defs.specs.declared.cert.Body.{Body}
 use Rattle.certificate_text.specs.declared.line.CertLine.{CertLine}
 use Rattle.certificate_text.specs.Words.{spelled}
-use Rattle.certificate_text.specs.Lines.{IsValid, fits}
+use Rattle.certificate_text.specs.Valid.{IsValid}
+use Rattle.certificate_text.specs.Fits.{fits}
 use Rattle.certificate_text.specs.Machine.{step}
 use Rattle.certificate_text.specs.Places.{view}
-use Rattle.certificate_text.specs.Text.{whole_lines}
+use Rattle.certificate_text.specs.BadLine.{whole_lines}
 use Rattle.certificate_text.specs.Gather.{grown, body_of}
-use Rattle.certificate_text.specs.Loop.{IsReading, Reading}
+use Rattle.certificate_text.specs.Front.{IsAtFront}
+use Rattle.certificate_text.specs.Loop.{Reading}
 use Rattle.certificate_text.proofs.ReadLaws.{bad-next, bad-unread, bad-lost, reading-next, reading-done}
 use Rattle.certificate_text.proofs.CodeLaws.{reading-long}
 use Rattle.certificate_text.proofs.read.read_rest.Goals as goal
@@ -46,7 +48,7 @@ returns-then-is_ended-clause-ok c =
     let counted : n + length c.in-Some.behind.now ≡ length c.args.bytes.now = omega (arith, few) in
     let found = reading-done g c.args.bytes.now c.args.ask inv.0 (view c.args.second) c.loop-front.rest.now c.loop-front.count (view c.loop-front.one) (view c.loop-front.two) c.loop-front.content c.in-Some.front.now c.in-Some.behind.now x c.known.ensures inv.2 inv.3 cut said.0 said.1 ended' n counted in
     let body : body_of g c.args.ask (grown c.loop-front.content x) ≡ c.in-Ok-make_body.body = ap (body_of g c.args.ask) (sym c.in-Ok-take.ensures) ∙ sym c.in-Ok-make_body.ensures in
-    subst (λ (b : Body). IsReading g c.args.bytes.now (record { ask = c.args.ask; body = b }) n) body found
+    subst (λ (b : Body). IsAtFront g c.args.bytes.now (record { ask = c.args.ask; body = b }) n) body found
 
 pub loop-front-preserved : goal.loop-front-preserved
 loop-front-preserved c =
