@@ -1,11 +1,11 @@
 -- From what is said to what is written.
-use Rattle.std.proofs.Common.{◌≡◌, ℕ, ◌+◌, ◌<◌, ◌≤◌, List, [], ◌++◌, length, refl, sym, ap, subst, ◌∙◌, inl, inr, None, Some, Option, IfSome, true, arith, append-nil, length-append}
-use Rattle.std.specs.Io.KnownBytes.{Consumes, Appends, IsAtEnd}
+use Rattle.std.proofs.Common.{◌≡◌, ℕ, ◌+◌, ◌<◌, ◌≤◌, List, [], ◌++◌, length, refl, sym, ap, subst, ◌∙◌, inl, inr, None, Some, Option, IfSome, arith, append-nil, length-append}
+use Rattle.std.specs.Io.KnownBytes.{Consumes, IsAtEnd}
 use Rattle.connect_words.specs.declared.command.Command.{Command}
 use Rattle.connect_run.specs.declared.status.Status.{Status}
 use Rattle.connect_run.specs.Built.{Commands}
 use Rattle.connect_run.specs.LargeCase.{limit}
-use Rattle.connect_run.specs.Answer.{IsAnswer, AnswersInput}
+use Rattle.connect_run.specs.Answer.{AnswersInput}
 use Rattle.connect_run.specs.Run.{AnswersLeft, Writes}
 use Rattle.connect_run.specs.Saying.{Says, Replies}
 use Rattle.connect_run.proofs.StatusLemmas.{answer-told, whole-writes}

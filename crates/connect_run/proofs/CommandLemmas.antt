@@ -1,15 +1,17 @@
 -- What a command asks, and that words are one command or bad.
 use Rattle.std.proofs.Common.{◌≡◌, ℕ, List, Option, None, Some, Result, Ok, Err, true, false, refl, sym, ap, subst, ◌∙◌, inl, inr}
+use Rattle.std.specs.Option.{IsSomeAnd}
 use Rattle.graph_core.specs.Graph.{GraphValue}
 use Rattle.problem_defs.specs.Ask.{misfit_of, KIsInRange}
 use Rattle.problem_defs.specs.declared.ask.Ask.{Ask}
 use Rattle.problem_defs.specs.declared.ask.Ask.TheVariants as ask
 use Rattle.problem_defs.specs.declared.ask.Misfit.{Misfit}
+use Rattle.connect_words.specs.Commands.{Solves}
 use Rattle.connect_words.specs.Asks.{asked, node_at, suited, unless}
 use Rattle.connect_words.specs.declared.command.Command.{Command}
 use Rattle.connect_words.specs.declared.command.Command.TheVariants.{Flow}
-use Rattle.connect_words.proofs.OneCommand.{one_command}
-use Rattle.connect_run.specs.Built.{Commands, AreCommand, is_built, is_solved}
+use Rattle.connect_words.proofs.MeaningLemmas.{one_command}
+use Rattle.connect_run.specs.Built.{AreCommand, is_built, is_solved}
 use Rattle.connect_run.specs.WordsCase.{IsBadPlace}
 
 -- a built command asks something, which is solved and is within its limits
@@ -24,9 +26,17 @@ pub record CanBeAsked (g : GraphValue) (words : List (List ℕ)) (command : Comm
   pub k : KIsInRange ask
   pub suits : misfit_of g ask ≡ None
 
--- what is said of each ask of the command
+-- a built command solves a problem on the graph that is read
+pub built-solves : (command : Command) → is_built command ≡ true → Solves command
+built-solves Flow built = ((λ same. cc), (λ kind nodes number same. cc))
+built-solves command built = absurd cc
+
+-- what is said of the command's ask
 abbrev pub IsAsked : GraphValue → List (List ℕ) → Command → Result Ask Misfit → Type 0
-IsAsked g words command result = (ask : Ask) → asked g words command ≡ Some ask → result ≡ suited g ask
+IsAsked g words command result = IsSomeAnd (asked g words command) (λ ask. result ≡ suited g ask)
+
+is-suited : (g : GraphValue) (words : List (List ℕ)) (command : Command) (result : Result Ask Misfit) (ask : Ask) → IsAsked g words command result → asked g words command ≡ Some ask → result ≡ suited g ask
+is-suited g words command result ask is asks = subst (λ o. IsSomeAnd o (λ a. result ≡ suited g a)) asks is
 
 unless-ok : (misfit : Option Misfit) (ask given : Ask) → Ok given ≡ unless misfit ask → (misfit ≡ None) × (ask ≡ given)
 unless-ok None ask given same = (refl, cc)
@@ -39,18 +49,18 @@ unless-err (Some misfit) ask given same = cc
 pub ok-asks : (g : GraphValue) (words : List (List ℕ)) (command : Command) (given : Ask) → is_built command ≡ true → IsAsked g words command (Ok given) → CanBeAsked g words command given
 ok-asks g words command given built is =
     let (ask, asks, solved, k) = built-asks g words command built in
-    let (suits, same) = unless-ok (misfit_of g ask) ask given (is ask asks) in
+    let (suits, same) = unless-ok (misfit_of g ask) ask given (is-suited g words command (Ok given) ask is asks) in
     subst (CanBeAsked g words command) same (record { asks = asks; solved = solved; k = k; suits = suits })
 
 pub err-asks : (g : GraphValue) (words : List (List ℕ)) (command : Command) (given : Misfit) → is_built command ≡ true → IsAsked g words command (Err given) → (ask : Ask) × (asked g words command ≡ Some ask) × (misfit_of g ask ≡ Some given)
 err-asks g words command given built is =
     let (ask, asks, solved, k) = built-asks g words command built in
-    (ask, asks, unless-err (misfit_of g ask) ask given (is ask asks))
+    (ask, asks, unless-err (misfit_of g ask) ask given (is-suited g words command (Err given) ask is asks))
 
 -- an ask that was given suits
 pub given-suits : (g : GraphValue) (words : List (List ℕ)) (command : Command) (given ask : Ask) (misfit : Misfit) → IsAsked g words command (Ok given) → asked g words command ≡ Some ask → misfit_of g ask ≡ Some misfit → ⊥
 given-suits g words command given ask misfit is asks unsuited =
-    let suits : misfit_of g ask ≡ None = (unless-ok (misfit_of g ask) ask given (is ask asks)).0 in
+    let suits : misfit_of g ask ≡ None = (unless-ok (misfit_of g ask) ask given (is-suited g words command (Ok given) ask is asks)).0 in
     let clash : None ≡ Some misfit = sym suits ∙ unsuited in
     cc
 

@@ -1,19 +1,19 @@
 -- Which statuses answers have.
-use Rattle.std.proofs.Common.{◌≡◌, ℕ, ◌⊎◌, List, Bool, true, false, Option, Some, refl, sym, ap, ◌∙◌, subst, inl, inr}
+use Rattle.std.proofs.Common.{◌≡◌, ℕ, ◌⊎◌, List, Bool, true, false, Option, refl, ap, ◌∙◌, inl, inr}
 use Rattle.graph_core.specs.Graph.{GraphValue}
 use Rattle.graph_text.specs.declared.refusal.Why.{Why}
-use Rattle.graph_text.specs.declared.refusal.Why.TheVariants.{NoHeader, BadLine, WrongKind, BadName, TwiceNode, UnknownNode, Loop, ManyNodes, ManyLines, NoNode, NoEnd}
+use Rattle.graph_text.specs.declared.refusal.Why.TheVariants.{ManyNodes, ManyLines}
 use Rattle.problem_defs.specs.Meets.{HasObject}
 use Rattle.problem_defs.specs.declared.ask.Ask.{Ask}
-use Rattle.problem_defs.specs.declared.ask.Ask.TheVariants.{Flow, CutTree, Augment, AugmentArcs, Arborescences, Trees, Forests, Orient, Dijoin}
+use Rattle.problem_defs.specs.declared.ask.Ask.TheVariants.{Flow, CutTree}
 use Rattle.problem_defs.specs.declared.cert.Body.{Body}
-use Rattle.problem_defs.specs.declared.cert.Body.TheVariants.{Tree, Turned, Walks, Edges, Arcs, Parts, Join, Never}
+use Rattle.problem_defs.specs.declared.cert.Body.TheVariants.{Tree, Walks, Never}
 use Rattle.connect_run.specs.FaultCase.{fault_status}
 use Rattle.connect_run.specs.SolvedCase.{verdict}
 use Rattle.connect_run.specs.Answer.{IsAnswer}
 use Rattle.connect_run.specs.Run.{Writes, WritesWhole}
 use Rattle.connect_run.specs.declared.status.Status.{Status}
-use Rattle.connect_run.specs.declared.status.Status.TheVariants.{Done, Impossible, Rejected, BadWords, BadGraph, TooLarge, Unsuited, ReadFault, WriteFault, NoMemory}
+use Rattle.connect_run.specs.declared.status.Status.TheVariants.{Done, ReadFault, WriteFault, NoMemory}
 
 -- a status that an answer may have
 abbrev pub is_told : Status → Bool

@@ -13,7 +13,7 @@ use Rattle.connect_run.specs.Built.{Commands}
 use Rattle.connect_run.specs.LargeCase.{limit}
 use Rattle.connect_run.specs.Answer.{IsAnswer}
 use Rattle.connect_run.specs.declared.status.Status.{Status}
-use Rattle.connect_run.specs.declared.status.Status.TheVariants.{Done, Impossible, Rejected, BadWords, BadGraph, TooLarge, Unsuited, ReadFault, WriteFault, NoMemory}
+use Rattle.connect_run.specs.declared.status.Status.TheVariants.{Done, ReadFault, WriteFault, NoMemory}
 
 -- an answer to what the source had left, where it tells it, and else to some input
 abbrev pub AnswersLeft : List (List ℕ) → Option (List ℕ) → List ℕ → Status → Type 0
