@@ -1,0 +1,172 @@
+use crate::run::{answer, begins, graph_text};
+use std::test::Fail;
+
+const SQUARE: &[u8] =
+    b"graph undirected\nnode a\nnode b\nnode c\nnode d\nedge a b\nedge b d\nedge a c\nedge c d\nend\n";
+
+// Words, input, the whole text and the exit number.
+const WHOLE: [(&str, &[u8], &[u8], u8); 26] = [
+    // No word goes on; the source isn't read.
+    ("", b"", b"words 1\n", 3),
+    ("flow a", b"", b"words 3\n", 3),
+    ("flow a b c", b"", b"words 4\n", 3),
+    ("augment 33", b"", b"words 2\n", 3),
+    ("augment 02", b"", b"words 2\n", 3),
+    ("trial flow 40 x", b"", b"words 4\n", 3),
+    // Commands that aren't built.
+    ("cuttree", b"", b"words 1\n", 3),
+    ("trial flow 40 7", b"", b"words 1\n", 3),
+    // The first fault of the graph text.
+    ("flow a b", b"", b"graph 1 header\n", 4),
+    ("flow a b", b"# nothing\n\n", b"graph 3 header\n", 4),
+    (
+        "flow a b",
+        b"graph undirected\nnode a\nedge a a\nend\n",
+        b"graph 3 loop\n",
+        4,
+    ),
+    (
+        "flow a b",
+        b"graph undirected\nnode a\nnode a\nend\n",
+        b"graph 3 twice\n",
+        4,
+    ),
+    (
+        "flow a b",
+        b"graph undirected\nnode a\n",
+        b"graph 3 noend\n",
+        4,
+    ),
+    (
+        "flow a b",
+        b"graph undirected\nnode a\narc a b\nend\n",
+        b"graph 3 kind\n",
+        4,
+    ),
+    (
+        "flow a b",
+        b"graph undirected\nnode a\nend\nnode b\n",
+        b"graph 4 line\n",
+        4,
+    ),
+    (
+        "flow a b",
+        b"graph undirected\nend\n",
+        b"graph 2 nonode\n",
+        4,
+    ),
+    (
+        "flow a b",
+        b"graph undirected\nnode a\nedge a b\nend\n",
+        b"graph 3 unknown\n",
+        4,
+    ),
+    (
+        "flow a b",
+        b"graph undirected\nnode a+\nend\n",
+        b"graph 2 name\n",
+        4,
+    ),
+    // The ask doesn't suit the graph.
+    ("flow a a", SQUARE, b"unsuited same\n", 6),
+    ("flow a q", SQUARE, b"unsuited node\n", 6),
+    ("flow q q", SQUARE, b"unsuited node\n", 6),
+    // Graphs of two nodes have one cut, so their answers are the only ones.
+    (
+        "flow a b",
+        b"graph undirected\nnode a\nnode b\nend\n",
+        b"certificate 1\ncommand flow a b\nvalue 0\ndual cut\nset a\nend\n",
+        0,
+    ),
+    (
+        "flow a b",
+        b"# one edge\r\n\r\ngraph\tundirected\r\nnode b\r\n  node a \r\nedge b a\r\nend",
+        b"certificate 1\ncommand flow a b\nvalue 1\npath 1\ndual cut\nset a\nend\n",
+        0,
+    ),
+    (
+        "flow a b",
+        b"graph directed\nnode a\nnode b\narc b a\nend\n# behind it\n",
+        b"certificate 1\ncommand flow a b\nvalue 0\ndual cut\nset a\nend\n",
+        0,
+    ),
+    (
+        "flow a b",
+        b"graph directed\nnode a\nnode b\narc b a\narc a b fixed\nend\n",
+        b"certificate 1\ncommand flow a b\nvalue 1\npath 2\ndual cut\nset a\nend\n",
+        0,
+    ),
+    (
+        "flow end node",
+        b"graph directed\nnode node\nnode end\narc end node\nend\n",
+        b"certificate 1\ncommand flow end node\nvalue 1\npath 1\ndual cut\nset end\nend\n",
+        0,
+    ),
+];
+
+// Words, input, how the text begins and the exit number.
+const BEGUN: [(&str, &[u8], &[u8], u8); 4] = [
+    (
+        "flow a d",
+        SQUARE,
+        b"certificate 1\ncommand flow a d\nvalue 2\npath ",
+        0,
+    ),
+    (
+        "flow a b",
+        b"graph undirected\nnode a\nnode b\nedge a b\nedge a b\nedge a b\nend\n",
+        b"certificate 1\ncommand flow a b\nvalue 3\npath ",
+        0,
+    ),
+    (
+        "flow a c",
+        b"graph directed\nnode a\nnode b\nnode c\narc a b\narc b a\narc b c\narc a c\narc c b\nend\n",
+        b"certificate 1\ncommand flow a c\nvalue 2\npath ",
+        0,
+    ),
+    (
+        "flow c a",
+        b"graph directed\nnode a\nnode b\nnode c\narc a b\narc b a\narc b c\narc a c\narc c b\nend\n",
+        b"certificate 1\ncommand flow c a\nvalue 1\npath 5 2\ndual cut\n",
+        0,
+    ),
+];
+
+#[test]
+fn words_and_graphs_have_their_answers(rt: HostRuntime) -> Result<(), Fail> {
+    for (words, input, text, number) in WHOLE {
+        let (written, status) = answer(rt.alloc(), words, input)?;
+        assert_eq!(rt; written.as_slice(), text, "{words}");
+        assert_eq!(rt; status, number, "{words}");
+    }
+    for (words, input, start, number) in BEGUN {
+        let (written, status) = answer(rt.alloc(), words, input)?;
+        assert!(rt; begins(&written, start), "{words}");
+        assert_eq!(rt; status, number, "{words}");
+    }
+    Ok(())
+}
+
+#[test]
+fn the_limits_of_a_graph_text(rt: HostRuntime) -> Result<(), Fail> {
+    let alloc = rt.alloc();
+    let largest = graph_text(alloc, 128, 2048)?;
+    let (written, status) = answer(alloc, "flow n1 n2", &largest)?;
+    assert!(rt;
+        begins(
+            &written,
+            b"certificate 1\ncommand flow n1 n2\nvalue 2048\npath "
+        )
+    );
+    assert_eq!(rt; status, 0);
+    let lines = answer(alloc, "flow n1 n2", &graph_text(alloc, 128, 2049)?)?;
+    assert_eq!(rt; lines.0.as_slice(), b"large lines\n".as_slice());
+    assert_eq!(rt; lines.1, 5);
+    let nodes = answer(alloc, "flow n1 n2", &graph_text(alloc, 129, 0)?)?;
+    assert_eq!(rt; nodes.0.as_slice(), b"large nodes\n".as_slice());
+    assert_eq!(rt; nodes.1, 5);
+    let bytes = answer(alloc, "flow n1 n2", &vec![in alloc; b'#'; 1_048_577]?)?;
+    assert_eq!(rt; bytes.0.as_slice(), b"large bytes\n".as_slice());
+    assert_eq!(rt; bytes.1, 5);
+    Ok(())
+}
