@@ -1,6 +1,6 @@
 //! Values worked out by hand, on a graph and on a digraph with the same lines.
 
-ghost use Rattle.std.specs.Prelude.{◌≡◌, ◌≤◌, IfOk, length};
+ghost use Rattle.std.specs.Prelude.{◌≡◌, ◌≤◌, [], ◌∷◌, IfOk, length};
 ghost use Rattle.graph_core.specs.Graph.{line_of};
 ghost use Rattle.graph_core.specs.Side.{IsProper};
 ghost use Rattle.graph_core.specs.Families.{IsPartition};
@@ -53,7 +53,7 @@ fn side(alloc: Global, marks: &[bool]) -> Result<Side, NoMemory>
     Ok(side)
 }
 
-/// Asserts that the side has these marks.
+/// Asserts that the side has these marks, and what follows from how many they are.
 fn shows(rt: &impl Abort, side: &Side, marks: &[bool], what: &str) {
     assert_eq!(rt; side.len(), marks.len(), "{what}");
     for (v, on) in marks.iter().enumerate() {
@@ -61,6 +61,11 @@ fn shows(rt: &impl Abort, side: &Side, marks: &[bool], what: &str) {
             assert_eq!(rt; side.has(v as u32), *on, "{what} at {v}");
         }
     }
+    let count = marks.iter().filter(|on| **on).count();
+    assert_eq!(rt; side.count(), count, "{what}");
+    assert_eq!(rt; side.is_empty(), count == 0, "{what}");
+    assert_eq!(rt; side.is_proper(), count != 0 && count != marks.len(), "{what}");
+    assert!(rt; side.same(side), "{what}");
 }
 
 /// A proper side and its complement.
@@ -106,47 +111,70 @@ fn names_have_one_to_thirty_two_letters_digits_or_signs(rt: HostRuntime) -> Resu
     Ok(())
 }
 
+/// The two sides as a list.
+fn pair(alloc: Global, x: &Side, y: &Side) -> Result<Sides, NoMemory>
+    ensures { IfOk result (λ sides. sides ≡ x.now ∷ y.now ∷ []) }
+{
+    let mut sides = Sides::new(alloc);
+    sides.push(x.copy(alloc)?)?;
+    sides.push(y.copy(alloc)?)?;
+    Ok(sides)
+}
+
+/// What each call makes of two sides.
+fn combined(alloc: Global, x: &Side, y: &Side) -> Result<Sides, NoMemory>
+    requires { length x.now ≡ length y.now }
+{
+    let mut all = Sides::new(alloc);
+    let mut z = x.copy(alloc)?;
+    z.join(y);
+    all.push(z)?;
+    let mut z = x.copy(alloc)?;
+    z.meet(y);
+    all.push(z)?;
+    let mut z = x.copy(alloc)?;
+    z.minus(y);
+    all.push(z)?;
+    let mut z = x.copy(alloc)?;
+    z.complement();
+    all.push(z)?;
+    let mut z = x.copy(alloc)?;
+    z.set_to(y);
+    all.push(z)?;
+    let mut both = pair(alloc, x, y)?;
+    both.join_items(1, 0);
+    all.push(both.remove(1))?;
+    let mut both = pair(alloc, x, y)?;
+    both.minus_items(1, 0);
+    all.push(both.remove(0))?;
+    all.push(both.remove(0))?;
+    Ok(all)
+}
+
 #[test]
 fn sides_and_lists_change_as_sets_and_lists_do(rt: HostRuntime) -> Result<(), Fail> {
     let x = side(rt.alloc(), &[true, true, false, false])?;
     let y = side(rt.alloc(), &[false, true, true, false])?;
-    assert_eq!(rt; x.len(), 4);
-    assert_eq!(rt; y.len(), 4);
-    let mut z = x.copy(rt.alloc())?;
-    z.join(&y);
-    shows(&rt, &z, &[true, true, true, false], "union");
-    assert_eq!(rt; z.count(), 3);
-    z.set_to(&x);
-    assert!(rt; z.same(&x));
-    z.meet(&y);
-    shows(&rt, &z, &[false, true, false, false], "intersection");
-    z.complement();
-    shows(&rt, &z, &[true, false, true, true], "complement");
-    z.minus(&y);
-    shows(&rt, &z, &[true, false, false, true], "difference");
-    assert!(rt; z.is_proper() && !z.is_empty() && !z.same(&x));
-    z.minus(&x);
-    z.put(3, false);
-    assert!(rt; z.is_empty() && !z.is_proper());
-    z.complement();
-    assert!(rt; z.has(0) && z.count() == 4 && !z.is_proper());
-
-    let mut sides = Sides::new(rt.alloc());
-    assert!(rt; sides.is_empty());
-    sides.push(x)?;
-    sides.push(y)?;
-    assert_eq!(rt; sides.len(), 2);
-    sides.minus_items(0, 1);
-    shows(&rt, sides.item(0), &[true, false, false, false], "first without second");
-    shows(&rt, sides.item(1), &[false, false, true, false], "second without first");
-    sides.join_items(1, 0);
-    shows(&rt, sides.item(1), &[true, false, true, false], "second with first");
-    let taken = sides.remove(0);
-    shows(&rt, &taken, &[true, false, false, false], "taken out");
-    shows(&rt, sides.item(0), &[true, false, true, false], "moved down");
+    let wanted = [
+        ("union", [true, true, true, false]),
+        ("intersection", [false, true, false, false]),
+        ("difference", [true, false, false, false]),
+        ("complement", [false, false, true, true]),
+        ("the other", [false, true, true, false]),
+        ("union in a list", [true, true, true, false]),
+        ("first without second", [true, false, false, false]),
+        ("second without first", [false, false, true, false]),
+    ];
+    let found = combined(rt.alloc(), &x, &y)?;
+    assert_eq!(rt; found.len(), wanted.len());
+    for (side, (what, marks)) in found.as_slice().iter().zip(&wanted) {
+        shows(&rt, side, marks, what);
+    }
 
     let mut numbers = Numbers::from_vec([7, 8].to_vec(rt.alloc())?);
-    *numbers.item_mut(1) = 9;
+    if numbers.len() == 2 {
+        *numbers.item_mut(1) = 9;
+    }
     assert_eq!(rt; numbers.as_slice(), [7, 9].as_slice());
     assert_eq!(rt; numbers.into_vec().as_slice(), [7, 9].as_slice());
     Ok(())
