@@ -64,7 +64,11 @@ fn shows(rt: &impl Abort, side: &Side, marks: &[bool], what: &str) {
     let count = marks.iter().filter(|on| **on).count();
     assert_eq!(rt; side.count(), count, "{what}");
     assert_eq!(rt; side.is_empty(), count == 0, "{what}");
-    assert_eq!(rt; side.is_proper(), count != 0 && count != marks.len(), "{what}");
+    assert_eq!(rt;
+        side.is_proper(),
+        count != 0 && count != marks.len(),
+        "{what}"
+    );
     assert!(rt; side.same(side), "{what}");
 }
 
@@ -181,7 +185,13 @@ fn sides_and_lists_change_as_sets_and_lists_do(rt: HostRuntime) -> Result<(), Fa
 }
 
 /// Asserts d, ρ, δ and i of a side, and that d counts the lines between it and its complement.
-fn counts(rt: &impl Abort, alloc: Global, graph: &Graph, marks: &[bool], values: [u64; 4]) -> Result<(), NoMemory>
+fn counts(
+    rt: &impl Abort,
+    alloc: Global,
+    graph: &Graph,
+    marks: &[bool],
+    values: [u64; 4],
+) -> Result<(), NoMemory>
     requires long { length marks.now ≡ length graph.now.names }
     requires few { length marks.now ≤ 8192 }
 {
@@ -226,8 +236,23 @@ fn counts_of_a_graph_and_of_a_digraph(rt: HostRuntime) -> Result<(), Fail> {
         more.push((2, 0))?;
         more.push((3, 1))?;
         let larger = graph.plus(rt.alloc(), &more)?;
-        assert_eq!(rt; (larger.kind(), larger.node_count(), larger.line_count()), (kind, 4, 7));
-        assert_eq!(rt; larger.lines(), [line(0, 1), line(0, 1), line(1, 0), line(1, 2), line(0, 2), line(2, 0), line(3, 1)].as_slice());
+        assert_eq!(rt;
+            (larger.kind(), larger.node_count(), larger.line_count()),
+            (kind, 4, 7)
+        );
+        assert_eq!(rt;
+            larger.lines(),
+            [
+                line(0, 1),
+                line(0, 1),
+                line(1, 0),
+                line(1, 2),
+                line(0, 2),
+                line(2, 0),
+                line(3, 1)
+            ]
+            .as_slice()
+        );
         assert_eq!(rt; larger.line(6), line(3, 1));
         assert!(rt; larger.name(3).is(b"d"));
     }
