@@ -1,0 +1,60 @@
+-- What the reader finds in the words, as a command or as the first bad place.
+use Rattle.std.proofs.Common.{◌≡◌, ◌≢◌, ℕ, zero, suc, ◌+◌, ◌<◌, ◌≤◌, ◌⊎◌, List, [], ◌∷◌, Option, Some, None, length, slice_get, refl, sym, ◌∙◌, ap, subst, arith, add-one, inl, inr}
+use Rattle.connect_words.specs.declared.command.Command.{Command}
+use Rattle.connect_words.specs.declared.slot.Verb.{Verb}
+use Rattle.connect_words.specs.declared.slot.Slot.{Slot}
+use Rattle.connect_words.specs.Commands.{Writes}
+use Rattle.connect_words.specs.Places.{IsFirstBadPlace}
+use Rattle.connect_words.specs.Slots.{Suits, SuitAll, Takes, slots, verb_word, verb_of, Reads}
+use Rattle.connect_words.proofs.CommandLemmas.{slots_write}
+use Rattle.connect_words.proofs.PlaceLemmas.{some_same, StopsAt, stop_is_bad}
+
+le_cases : (m n : ℕ) → m ≤ n → (m < n) ⊎ (m ≡ n)
+le_cases zero zero h = inr refl
+le_cases zero (suc n) h = inl (omega arith)
+le_cases (suc m) zero h = absurd (omega (arith, h))
+le_cases (suc m) (suc n) h = elim (le_cases m n (omega (arith, h))) [ inl below ↦ inl (omega (arith, below)) | inr same ↦ inr (ap suc same) ]
+
+-- the first word is this verb, and so many slots are filled, whatever the next one is
+pub record Filled (words : List (List ℕ)) (v : Verb) (ss : List Slot) (n : ℕ) : Type 0 where
+  pub slots_are : ss ≡ slots v
+  pub head : slice_get words 0 ≡ Some (verb_word v)
+  pub within : n ≤ length ss
+  pub before : (at : ℕ) → at < n → Takes (slice_get ss at) (slice_get words (at + 1))
+  pub stop : n < length ss → Takes (slice_get ss n) (slice_get words (n + 1)) → ⊥
+
+behind : (w : List ℕ) (ws : List (List ℕ)) (slot : Option Slot) (at : ℕ) → Takes slot (slice_get (w ∷ ws) (at + 1)) → Takes slot (slice_get ws at)
+behind w ws slot at h = subst (λ k. Takes slot (slice_get (w ∷ ws) k)) (add-one at) h
+
+ahead : (w : List ℕ) (ws : List (List ℕ)) (slot : Option Slot) (at : ℕ) → Takes slot (slice_get ws at) → Takes slot (slice_get (w ∷ ws) (at + 1))
+ahead w ws slot at h = subst (λ k. Takes slot (slice_get (w ∷ ws) k)) (sym (add-one at)) h
+
+-- the first bad place
+pub filled_is_bad : (words : List (List ℕ)) (v : Verb) (ss : List Slot) (n : ℕ) → Filled words v ss n → (n < length ss) ⊎ (length ss + 1 < length words) → IsFirstBadPlace words (n + 2)
+filled_is_bad [] v ss n f wrong = let e = f.head in absurd cc
+filled_is_bad (w ∷ ws) v ss n f wrong = subst (λ u. IsFirstBadPlace (u ∷ ws) (n + 2)) (sym (some_same f.head)) (stop_is_bad v ws n (record { filled = filled; stop = elim wrong [ inl below ↦ inl (next below) | inr more ↦ elim (le_cases n (length ss) f.within) [ inl below ↦ inl (next below) | inr all ↦ inr (all ∙ ap length f.slots_are, omega (arith, all, more)) ] ] }))
+  where
+    filled : (at : ℕ) → at < n → Takes (slice_get (slots v) at) (slice_get ws at)
+    filled at below = subst (λ s. Takes (slice_get s at) (slice_get ws at)) f.slots_are (behind w ws (slice_get ss at) at (f.before at below))
+
+    next : n < length ss → (n < length (slots v)) × (Takes (slice_get (slots v) n) (slice_get ws n) → ⊥)
+    next below = (subst (λ s. n < length s) f.slots_are below, λ t. f.stop below (ahead w ws (slice_get ss n) n (subst (λ s. Takes (slice_get s n) (slice_get ws n)) (sym f.slots_are) t)))
+
+collect : (ss : List Slot) (ws : List (List ℕ)) → ((at : ℕ) → at < length ss → Takes (slice_get ss at) (slice_get ws at)) → length ws ≤ length ss → SuitAll ss ws
+collect [] [] h few = tt
+collect [] (w ∷ ws) h few = absurd (omega (arith, few))
+collect (s ∷ ss) [] h few = absurd (h 0 (omega arith))
+collect (s ∷ ss) (w ∷ ws) h few = (h 0 (omega arith), collect ss ws (λ at below. h (suc at) (omega (arith, below))) (omega (arith, few)))
+
+write_all : (command : Command) (ws : List (List ℕ)) (ss : List Slot) (v : Verb) (w : List ℕ) → v ≡ verb_of command → w ≡ verb_word v → ss ≡ slots v → SuitAll ss ws → Reads (w ∷ ws) command → Writes command (w ∷ ws)
+write_all command ws ss v w verb_is word_is slots_are suit reads =
+    let is : w ≡ verb_word (verb_of command) = word_is ∙ ap verb_word verb_is in
+    let suits : SuitAll (slots (verb_of command)) ws = subst (λ s. SuitAll s ws) (slots_are ∙ ap slots verb_is) suit in
+    subst (λ u. Writes command (u ∷ ws)) (sym is) (slots_write command ws suits (subst (λ u. Reads (u ∷ ws) command) is reads))
+
+-- the command
+pub filled_writes : (words : List (List ℕ)) (v : Verb) (ss : List Slot) (n : ℕ) (command : Command) → Filled words v ss n → length ss ≤ n → length words ≤ length ss + 1 → verb_of command ≡ v → Reads words command → Writes command words
+filled_writes [] v ss n command f all few verb_is reads = let e = f.head in absurd cc
+filled_writes (w ∷ ws) v ss n command f all few verb_is reads =
+    write_all command ws ss v w (sym verb_is) (some_same f.head) f.slots_are
+      (collect ss ws (λ at below. behind w ws (slice_get ss at) at (f.before at (omega (arith, below, all)))) (omega (arith, few))) reads

@@ -1,0 +1,4 @@
+pub mod Commands
+pub mod Places
+pub mod Slots
+pub mod Asks

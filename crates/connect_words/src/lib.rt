@@ -1,0 +1,14 @@
+//! The words of a command line, read as a command, and what that command asks of a graph.
+#![tactic(auto)]
+
+mod asks;
+mod command;
+mod law;
+mod number;
+mod slot;
+mod words;
+
+pub use asks::ask_of;
+pub use command::{Command, TrialKind, WordFault};
+pub use law::words_have_one_meaning;
+pub use words::read_words;
