@@ -1,5 +1,5 @@
 -- Graphs.
-use Rattle.std.specs.Prelude.{◌≡◌, ◌≢◌, ℕ, ◌<◌, ◌≤◌, false, List, map, length, All, AllPairs}
+use Rattle.std.specs.Prelude.{◌≡◌, ◌≢◌, ℕ, ◌<◌, ◌≤◌, false, List, ◌++◌, map, length, All, AllPairs}
 use Rattle.graph_core.specs.Name.{IsName}
 use Rattle.graph_core.specs.declared.graph.Kind.{Kind}
 use Rattle.graph_core.specs.declared.graph.Kind.TheVariants.{Undirected}
@@ -17,7 +17,16 @@ pub record Fits (n : ℕ) (l : Line) : Type 0 where
   pub head : l.head < n
   pub apart : l.tail ≢ l.head
 
--- what holds of every graph
+-- what a kind, names and lines have to meet to make a graph
+pub record MakesGraph (g : GraphValue) : Type 0 where
+  pub some : 1 ≤ length g.names
+  pub nodes : length g.names ≤ 4096
+  pub few : length g.lines ≤ 65536
+  pub distinct : AllPairs (λ a b. a ≢ b) g.names
+  pub ends : All (Fits (length g.names)) g.lines
+  pub free : g.kind ≡ Undirected → All (λ l. l.fixed ≡ false) g.lines
+
+-- what holds of every graph: the same, and that its names are names
 pub record IsGraph (g : GraphValue) : Type 0 where
   pub some : 1 ≤ length g.names
   pub nodes : length g.names ≤ 4096
@@ -38,3 +47,7 @@ line_of p = record { tail = p.0; head = p.1; fixed = false }
 
 abbrev pub lines_of : List (ℕ × ℕ) → List Line
 lines_of pairs = map line_of pairs
+
+-- the graph with these lines behind its own
+abbrev pub with_lines : GraphValue → List Line → GraphValue
+with_lines g more = record { kind = g.kind; names = g.names; lines = g.lines ++ more }
