@@ -1,0 +1,12 @@
+pub mod ClosedSides
+pub mod ExtremeSides
+pub mod GraphWalks
+pub mod LinkLaws
+pub mod OpenWays
+pub mod Pushes
+pub mod RisingWays
+pub mod Rows
+pub mod Runs
+pub mod SearchTrees
+pub mod Streams
+pub mod TakenWalks
