@@ -1,0 +1,6 @@
+pub mod CutLaws
+pub mod Gathered
+pub mod LeastSides
+pub mod SomeBelow
+pub mod StoredSides
+pub mod Turned

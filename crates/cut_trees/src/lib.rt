@@ -1,0 +1,4 @@
+//! Cut trees, by n - 1 least cuts between two nodes.
+#![tactic(auto)]
+
+mod branch;
