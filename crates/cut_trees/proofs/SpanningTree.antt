@@ -119,8 +119,8 @@ module _ {n : ℕ} {ls : List Line} (bs : List Branch) {rep : ℕ → ℕ} (st :
       ext_get_or false X Z (e ∙ sym (st.long j lj))
       (λ v l. alike (has X v) (has Z v) (ap weight (st.joined q uncrossed v (omega arith) ∙ sym (st.joined q uncrossed (at bs j).first (st.first_in j lj)) ∙ at_first)))
 
-  pub cut_tree : (g : GraphValue) → length g.names ≡ n → g.lines ≡ ls → IsCutTree g (map pair_of bs)
-  cut_tree g names lines =
+  pub grown_tree : (g : GraphValue) → length g.names ≡ n → g.lines ≡ ls → IsCutTree g (map pair_of bs)
+  grown_tree g names lines =
       let fit : All (Fits n) (map line_at bs) =
       All-branches (Fits n) line_at bs (λ j l. record { tail = st.first_in j l; head = st.second_in j l; apart = λ e. let a = st.inside j l in let c = ap (has (at bs j).side) e ∙ st.outside j l in absurd cc }) in
       let parted : AreParted n bs = record { long = st.long; inside = st.inside; outside = st.outside; apart = st.apart } in

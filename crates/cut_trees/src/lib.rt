@@ -2,3 +2,7 @@
 #![tactic(auto)]
 
 mod branch;
+mod node_cuts;
+mod tree;
+
+pub use tree::cut_tree;
