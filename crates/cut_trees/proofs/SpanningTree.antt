@@ -125,9 +125,11 @@ module _ {n : ℕ} {ls : List Line} (bs : List Branch) {rep : ℕ → ℕ} (st :
       All-branches (Fits n) line_at bs (λ j l. record { tail = st.first_in j l; head = st.second_in j l; apart = λ e. let a = st.inside j l in let c = ap (has (at bs j).side) e ∙ st.outside j l in absurd cc }) in
       let parted : AreParted n bs = record { long = st.long; inside = st.inside; outside = st.outside; apart = st.apart } in
       record {
-        fit = rw (tree_lines-branches bs, names) fit;
-        acyclic = rw (tree_lines-branches bs, names) (λ X some. few_within bs parted X some.long (size-nonempty X some.some_in));
-        many = rw names (omega (arith, length-map bs pair_of, st.many));
+        tree = record {
+          fit = rw (tree_lines-branches bs, names) fit;
+          acyclic = rw (tree_lines-branches bs, names) (λ X some. few_within bs parted X some.long (size-nonempty X some.some_in));
+          many = rw names (omega (arith, length-map bs pair_of, st.many));
+        };
         cuts = All-branches (λ p. IsLeastCut g (map pair_of bs) p.0 p.1 p.2) pair_of bs (λ j l. record {
           weight = λ X e holds misses one. rw (lines, the_side X j l (e ∙ names) holds misses (rw (tree_lines-branches bs) at one)) (st.value j l);
           least = λ Y e h. rw lines (st.least j l Y (e ∙ names) h);
