@@ -7,3 +7,4 @@ pub mod SomeBelow
 pub mod SpanningTree
 pub mod StoredSides
 pub mod Turned
+pub mod NetworkCuts

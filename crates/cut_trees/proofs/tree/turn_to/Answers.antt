@@ -5,7 +5,7 @@ use Rattle.cut_trees.specs.Branch.{at, no_branch}
 use Rattle.cut_trees.specs.Grown.{IsLeastSide, IsGrown}
 use Rattle.cut_trees.specs.Turn.{IsTurn}
 use Rattle.cut_trees.proofs.NextNode.{grown_next}
-use Rattle.cut_trees.proofs.Turned.{grown_turned, turn_begun}
+use Rattle.cut_trees.proofs.Turned.{turn_begun}
 use Rattle.cut_trees.proofs.tree.turn_to.Goals as goal
 
 pub gather-requires-clause-long : goal.gather-requires-clause-long
