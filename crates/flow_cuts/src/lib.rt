@@ -2,6 +2,7 @@
 #![tactic(auto)]
 
 mod adjacency;
+mod certified;
 mod course;
 mod flow;
 mod levels;
@@ -12,4 +13,5 @@ mod sides;
 mod walks;
 
 pub use flow::Flow;
+pub use certified::most_walks;
 pub use network::Cap;
