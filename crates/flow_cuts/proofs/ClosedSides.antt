@@ -12,7 +12,6 @@ use Rattle.flow_cuts.specs.Network.{across, capacity, Separates}
 use Rattle.flow_cuts.specs.Cuts.{IsLeastCut}
 use Rattle.flow_cuts.specs.Residual.{from_of, to_of, room_of, link_at, no_link, from_at, to_at, room_at, room_out, room_leaving, IsFlow}
 
-
 pub sum_by_zeros : {A : Type 0} (f : A → ℕ) (d : A) (xs : List A) → ((j : ℕ) → j < length xs → f (get_or xs j d) ≡ 0) → sum_by f xs ≡ 0
 sum_by_zeros f d [] h = refl
 sum_by_zeros f d (x ∷ xs) h =
@@ -71,4 +70,3 @@ pub closed_least : (n : ℕ) (inside outside : List Bool) (arcs : List Cap) (lin
     (X : List Bool) → IsLeastCut n inside outside arcs value X → IsClosedSide X links
 closed_least n inside outside arcs links value flow X cut =
     closed_leaving X links (omega (arith, flow.sent X cut.separates, cut.value_is))
-

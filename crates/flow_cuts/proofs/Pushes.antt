@@ -10,7 +10,6 @@ use Rattle.flow_cuts.specs.declared.network.Cap.{Cap}
 use Rattle.flow_cuts.specs.Network.{across, capacity, Separates}
 use Rattle.flow_cuts.specs.Residual.{from_of, to_of, room_of, moved, link_at, no_link, from_at, to_at, room_at, pushed, room_out, room_leaving, AreLinksOf, IsFlow}
 
-
 -- an amount that stands at a node outside of the side
 abbrev pub at_outside : Bool → ℕ → ℕ
 at_outside b a = cond b 0 a

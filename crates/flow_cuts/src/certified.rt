@@ -21,7 +21,12 @@ fn alone(alloc: Global, n: usize, v: u32) -> Result<Side, NoMemory>
 }
 
 /// The most disjoint walks from one node to another, and a cut that shows that there are no more (Menger's theorem, edge form).
-pub fn most_walks(alloc: Global, graph: &Graph, from: u32, to: u32) -> Result<Certified<FlowAsk>, NoMemory>
+pub fn most_walks(
+    alloc: Global,
+    graph: &Graph,
+    from: u32,
+    to: u32,
+) -> Result<Certified<FlowAsk>, NoMemory>
     requires { Suits from to graph.now }
     ensures ask { IfOk result (λ found. found.ask ≡ record { from = from; to = to }) }
     ensures certified { IfOk result (λ found. IsCertified ⟦<FlowAsk as Problem>⟧ graph.now found.ask found.object found.dual) }

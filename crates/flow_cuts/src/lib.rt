@@ -12,6 +12,6 @@ mod search;
 mod sides;
 mod walks;
 
-pub use flow::Flow;
 pub use certified::most_walks;
+pub use flow::Flow;
 pub use network::Cap;

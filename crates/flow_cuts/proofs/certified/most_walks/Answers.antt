@@ -25,10 +25,11 @@ side-requires-clause-len c =
 
 pub walks-requires-clause-made : goal.walks-requires-clause-made
 walks-requires-clause-made c =
-    let r : Run = record { inside = c.in_ok-inside.inside; outside = c.in_ok-outside.outside; stop = c.line_count.result + 1; answer = c.run.result } in
-    (origin c.args.graph.now,
-    (MeetsCut-ran c.args.graph.now c.args.from c.args.to r c.in_ok-flow.flow c.run.new.self c.requires.apart c.in_ok-inside.ensures.only c.in_ok-outside.ensures.only
-    (c.in_ok-inside.ensures.len ∙ c.node_count-n.ensures) (ap (λ k. k + 1) c.line_count.ensures.count) c.in_ok-flow.ensures c.run.ensures.ran c.run.ensures.least).made)
+    let r : Run = record { inside = c.in_ok-inside.inside; outside = c.in_ok-outside.outside; stop = c.line_count.result + 1; answer = c.run.result } in (
+      origin c.args.graph.now,
+      (MeetsCut-ran c.args.graph.now c.args.from c.args.to r c.in_ok-flow.flow c.run.new.self c.requires.apart c.in_ok-inside.ensures.only c.in_ok-outside.ensures.only
+          (c.in_ok-inside.ensures.len ∙ c.node_count-n.ensures) (ap (λ k. k + 1) c.line_count.ensures.count) c.in_ok-flow.ensures c.run.ensures.ran c.run.ensures.least).made,
+    )
 
 pub walks-requires-clause-ran : goal.walks-requires-clause-ran
 walks-requires-clause-ran c =
