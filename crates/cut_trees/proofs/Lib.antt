@@ -1,0 +1,10 @@
+pub mod Branches
+pub mod CutLaws
+pub mod Gathered
+pub mod LeastSides
+pub mod NextNode
+pub mod SomeBelow
+pub mod SpanningTree
+pub mod StoredSides
+pub mod Turned
+pub mod NetworkCuts

@@ -1,0 +1,8 @@
+//! Cut trees, by n - 1 least cuts between two nodes.
+#![tactic(auto)]
+
+mod branch;
+mod node_cuts;
+mod tree;
+
+pub use tree::cut_tree;

@@ -1,0 +1,71 @@
+ghost use Rattle.std.specs.Prelude.{◌≡◌, ◌≢◌, ◌<◌, ◌≤◌, length, IfOk};
+ghost use Rattle.graph_core.specs.declared.graph.Kind.TheVariants.{Undirected};
+ghost use Rattle.flow_cuts.specs.Flow.{IsOnly};
+ghost use Rattle.flow_cuts.specs.GraphArcs.{arcs_of};
+ghost use Rattle.cut_trees.specs.Grown.{IsLeastSide};
+
+use flow_cuts::Flow;
+use graph_core::{Graph, NoMemory, Side};
+use std::alloc::Global;
+
+/// Least cuts between two nodes of an undirected graph, by flows over one network.
+#[derive(Drop)]
+pub struct NodeCuts<'a> {
+    pub graph: &'a Graph,
+    flow: Flow,
+    inside: Side,
+    outside: Side,
+    ghost nodes: { flow.nodes ≡ length graph.now.names },
+    ghost arcs: { flow.arcs ≡ arcs_of Undirected graph.now.lines },
+    ghost inside_long: { length inside ≡ length graph.now.names },
+    ghost outside_long: { length outside ≡ length graph.now.names },
+}
+
+/// Makes the side hold the one node.
+fn hold_only(side: &mut Side, node: u32)
+    requires few { length side.old ≤ 8192 }
+    requires node { node < length side.old }
+    ensures long { length side.new ≡ length side.old }
+    ensures only { IsOnly side.new node }
+{
+    for v in 0..side.len() as u32 {
+        side.put(v, v == node);
+    }
+}
+
+impl<'a> NodeCuts<'a> {
+    pub fn new(alloc: Global, graph: &'a Graph) -> Result<NodeCuts<'a>, NoMemory>
+        requires { graph.now.kind ≡ Undirected }
+        ensures { IfOk result (λ cuts. cuts.graph.now ≡ graph.now) }
+    {
+        graph.known();
+        let n = graph.node_count();
+        let flow = Flow::of_graph(alloc, graph)?;
+        let inside = Side::empty(alloc, n)?;
+        let outside = Side::empty(alloc, n)?;
+        Ok(NodeCuts {
+            graph,
+            flow,
+            inside,
+            outside,
+        })
+    }
+
+    /// Writes a least cut that holds `s` and misses `t`, and gives the number of its lines.
+    pub fn least_cut(&mut self, s: u32, t: u32, into: &mut Side) -> u64
+        requires s { s < length self.old.graph.now.names }
+        requires t { t < length self.old.graph.now.names }
+        requires apart { s ≢ t }
+        requires long { length into.old ≡ length self.old.graph.now.names }
+        ensures graph { self.new.graph.now ≡ self.old.graph.now }
+        ensures cut { IsLeastSide (length self.old.graph.now.names) self.old.graph.now.lines s t result into.new }
+    {
+        self.graph.known();
+        hold_only(&mut self.inside, s);
+        hold_only(&mut self.outside, t);
+        let stop = self.graph.line_count() as u64 + 1;
+        let value = self.flow.run(&self.inside, &self.outside, stop);
+        self.flow.side(into);
+        value
+    }
+}

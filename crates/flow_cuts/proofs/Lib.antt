@@ -1,0 +1,14 @@
+pub mod ArcLaws
+pub mod ClosedSides
+pub mod ExtremeSides
+pub mod GraphWalks
+pub mod LinkLaws
+pub mod Menger
+pub mod OpenWays
+pub mod Pushes
+pub mod RisingWays
+pub mod Rows
+pub mod Runs
+pub mod SearchTrees
+pub mod Streams
+pub mod TakenWalks

@@ -1,0 +1,11 @@
+pub mod Cuts
+pub mod Flow
+pub mod GraphArcs
+pub mod LinkWalks
+pub mod Network
+pub mod Ready
+pub mod Residual
+pub mod Rows
+pub mod Search
+pub mod Sound
+pub mod Streams

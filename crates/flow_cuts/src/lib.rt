@@ -1,0 +1,17 @@
+//! Least cuts and disjoint walks, by flows.
+#![tactic(auto)]
+
+mod adjacency;
+mod certified;
+mod course;
+mod flow;
+mod levels;
+mod network;
+mod residual;
+mod search;
+mod sides;
+mod walks;
+
+pub use certified::most_walks;
+pub use flow::Flow;
+pub use network::Cap;

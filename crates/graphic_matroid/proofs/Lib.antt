@@ -1,0 +1,4 @@
+pub mod RootLaws
+pub mod Steps
+pub mod Dual
+pub mod DualCounts

@@ -1,0 +1,19 @@
+use Rattle.std.proofs.Common.{◌≡◌, ◌≤◌, ◌<◌, length, count_by, sym, ap, ◌∙◌, subst, arith}
+use Rattle.graphic_matroid.specs.Labels.{unfit}
+use Rattle.graphic_matroid.proofs.RootLaws.{count_by-unfit}
+use Rattle.graphic_matroid.proofs.graphic.Graphic.new.Goals as goal
+
+pub invariant_of-result : goal.invariant_of-result
+invariant_of-result c =
+    let lines = c.in_ok-lines.ensures in
+    let few : length c.args.graph.now.lines ≤ 65536 = c.known.ensures.few in
+    let nodes : length c.args.graph.now.names ≤ 4096 = c.known.ensures.nodes in
+    let count = c.node_count-nodes.ensures in
+    record {
+      few_nodes = omega arith;
+      few_lines = subst (λ ls. length ls ≤ 65536) (sym lines) few;
+      fit = subst (λ ls. count_by (unfit c.node_count-nodes.result) ls ≡ 0) (sym lines)
+          (subst (λ n. count_by (unfit n) c.args.graph.now.lines ≡ 0) (sym count) (count_by-unfit (length c.args.graph.now.names) c.args.graph.now.lines c.known.ensures.ends));
+      parents_long = c.in_ok-parents.ensures;
+      ranks_long = c.in_ok-ranks.ensures;
+    }

@@ -1,0 +1,115 @@
+ghost use Rattle.std.specs.Prelude.{◌≡◌, ◌↔◌, ◌<◌, ◌≤◌, ◌^◌, length, count_by, IsTrue, IfOk};
+ghost use Rattle.graph_core.specs.Trees.{IsAcyclic};
+ghost use Rattle.graphic_matroid.specs.Chosen.{chosen};
+ghost use Rattle.graphic_matroid.specs.Labels.{unfit};
+
+use crate::classes::Classes;
+use graph_core::{Graph, Line, Marks, NoMemory};
+use matroid_union::Matroid;
+use std::alloc::Global;
+
+/// The lines of a graph as the elements of a matroid, of which the forests are free.
+#[derive(Debug, Drop)]
+pub struct Graphic {
+    pub nodes: usize,
+    pub lines: Vec<Line>,
+    pub(crate) classes: Classes,
+    pub ghost few_nodes: { nodes < 2 ^ 32 },
+    pub ghost few_lines: { length lines.items ≤ 65536 },
+    pub ghost fit: { count_by (unfit nodes) lines.items ≡ 0 },
+    pub ghost parents_long: { length classes.parents.items ≡ nodes },
+    pub ghost ranks_long: { length classes.ranks.items ≡ nodes },
+}
+
+impl Graphic {
+    /// It takes all the memory that `is_free` needs.
+    pub fn new(alloc: Global, graph: &Graph) -> Result<Graphic, NoMemory>
+        ensures nodes { IfOk result (λ g. g.nodes ≡ length graph.now.names) }
+        ensures lines { IfOk result (λ g. g.lines.items ≡ graph.now.lines) }
+    {
+        graph.known();
+        let nodes = graph.node_count();
+        let lines = lines_of(alloc, graph)?;
+        let parents = zeros(alloc, nodes)?;
+        let ranks = zeros(alloc, nodes)?;
+        let classes = Classes { parents, ranks };
+        Ok(Graphic {
+            nodes,
+            lines,
+            classes,
+        })
+    }
+}
+
+impl Matroid for Graphic {
+    ghost use Rattle.std.specs.Prelude.{length};
+    ghost use Rattle.graph_core.specs.Trees.{IsAcyclic};
+    ghost use Rattle.graphic_matroid.specs.Chosen.{chosen};
+    ghost use Rattle.graphic_matroid.specs.ForestLaws.{forest_matroid};
+
+    ghost count = { λ g. length g.lines.items };
+
+    ghost free = { λ g X. IsAcyclic g.nodes (chosen X g.lines.items) };
+
+    ghost laws = { λ g. forest_matroid g.nodes g.lines.items g.fit };
+
+    fn size(&self) -> usize {
+        self.lines.len()
+    }
+
+    fn is_free(&mut self, set: &Marks) -> bool {
+        is_forest(&self.lines, set, &mut self.classes)
+    }
+}
+
+/// Whether the lines of the set are a forest. It joins the classes of their ends one by one.
+fn is_forest(lines: &[Line], set: &Marks, classes: &mut Classes) -> bool
+    requires few_nodes { length classes.old.parents.items < 2 ^ 32 }
+    requires few_lines { length lines.now ≤ 65536 }
+    requires alike { length classes.old.ranks.items ≡ length classes.old.parents.items }
+    requires fit { count_by (unfit (length classes.old.parents.items)) lines.now ≡ 0 }
+    requires long { length set.now ≡ length lines.now }
+    ensures answer { IsTrue result ↔ IsAcyclic (length classes.old.parents.items) (chosen set.now lines.now) }
+    ensures parents_long { length classes.new.parents.items ≡ length classes.old.parents.items }
+    ensures ranks_long { length classes.new.ranks.items ≡ length classes.old.parents.items }
+{
+    classes.reset();
+    for j in 0..lines.len() {
+        if *set.item(j) {
+            let line = lines[j];
+            let tail = classes.root(line.tail);
+            let head = classes.root(line.head);
+            if tail == head {
+                return false;
+            }
+            classes.join(tail, head);
+        }
+    }
+    true
+}
+
+/// The lines of the graph in their order.
+fn lines_of(alloc: Global, graph: &Graph) -> Result<Vec<Line>, NoMemory>
+    ensures { IfOk result (λ lines. lines.items ≡ graph.now.lines) }
+{
+    let mut lines = Vec::new(alloc);
+    for j in 0..graph.line_count() {
+        if lines.push(graph.line(j)).is_err() {
+            return Err(NoMemory);
+        }
+    }
+    Ok(lines)
+}
+
+/// One number for each node.
+fn zeros(alloc: Global, n: usize) -> Result<Vec<u32>, NoMemory>
+    ensures { IfOk result (λ v. length v.items ≡ n) }
+{
+    let mut numbers = Vec::new(alloc);
+    for _ in 0..n {
+        if numbers.push(0).is_err() {
+            return Err(NoMemory);
+        }
+    }
+    Ok(numbers)
+}

@@ -1,0 +1,9 @@
+pub mod Sizes
+pub mod Members
+pub mod Exchanges
+pub mod Chain
+pub mod Kept
+pub mod SearchLaws
+pub mod Alike
+pub mod ScanLaws
+pub mod Rows

@@ -1,0 +1,6 @@
+pub mod Matroid
+pub mod Sets
+pub mod Parts
+pub mod Search
+pub mod Union
+pub mod Uniform

@@ -1,0 +1,26 @@
+-- Disjoint free sets, and the elements that show that they are most.
+use Rattle.std.specs.Prelude.{◌≡◌, ℕ, ◌<◌, ◌==◌, Bool, true, false, ◌&&◌, List, [], length, slice_index_or}
+use Rattle.std.specs.List.{list_any, concat}
+use Rattle.graph_core.specs.Side.{has}
+use Rattle.graph_core.specs.Picked.{IsDistinct}
+use Rattle.matroid_union.specs.Sets.{set_of, plus}
+
+-- whether a row names an element
+abbrev pub names : List ℕ → ℕ → Bool
+names row e = list_any (λ x. x == e) row
+
+-- row p
+abbrev pub row : List (List ℕ) → ℕ → List ℕ
+row rows p = slice_index_or rows p []
+
+-- k rows of elements below n, each a free set, no element named twice in all of them together
+pub record IsUnion (n : ℕ) (free : List Bool → Type 0) (k : ℕ) (rows : List (List ℕ)) (reached : List Bool) : Type 0 where
+  pub many : length rows ≡ k
+  pub inside : (p e : ℕ) → p < k → names (row rows p) e ≡ true → e < n
+  pub distinct : IsDistinct (concat rows)
+  pub parts : (p : ℕ) → p < k → free (set_of n (names (row rows p)))
+  pub reached_long : length reached ≡ n
+  -- each element that no row names is reached
+  pub rest : (e : ℕ) → e < n → ((p : ℕ) → p < k → names (row rows p) e ≡ false) → has reached e ≡ true
+  -- no part can take a reached element beside its own reached ones
+  pub full : (p e : ℕ) → p < k → e < n → names (row rows p) e ≡ false → has reached e ≡ true → free (set_of n (plus (λ i. names (row rows p) i && has reached i) e)) → ⊥

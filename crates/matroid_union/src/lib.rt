@@ -1,0 +1,15 @@
+//! Disjoint free sets of a matroid, by matroid union.
+#![tactic(auto)]
+
+mod exchange;
+mod greedy;
+mod matroid;
+mod packing;
+mod parts;
+mod search;
+
+pub use matroid::Matroid;
+pub use parts::{FreeParts, union};
+
+#[cfg(test)]
+mod tests;

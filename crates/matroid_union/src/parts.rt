@@ -1,0 +1,146 @@
+ghost use Rattle.std.specs.Prelude.{◌≡◌, ◌^◌, ℕ, ◌<◌, Bool, List, length, replicate, IfOk, OnOk, IfSome, None, true, false};
+ghost use Rattle.graph_core.specs.Side.{has};
+ghost use Rattle.matroid_union.specs.Matroid.{IsAlike};
+ghost use Rattle.matroid_union.specs.Parts.{own_of, members, rows_of, IsPacking};
+ghost use Rattle.matroid_union.specs.Search.{AreDead};
+ghost use Rattle.matroid_union.specs.Union.{IsUnion};
+
+use crate::exchange::exchange;
+use crate::greedy::take_freely;
+use crate::matroid::Matroid;
+use crate::packing::is_part;
+use crate::search::{Search, blank, find_end};
+use graph_core::{Marks, NoMemory, NumberRows, Numbers};
+use std::alloc::Global;
+
+/// Disjoint free sets, and elements that show that they are most: those reached from the rest by exchanges.
+#[derive(Debug, Drop)]
+pub struct FreeParts {
+    pub parts: NumberRows,
+    pub reached: Marks,
+}
+
+/// The most elements in `k` disjoint free sets (Edmonds 1968), by shortest exchange paths.
+pub fn union<M: Matroid>(alloc: Global, matroid: &mut M, k: u32) -> Result<FreeParts, NoMemory>
+    requires { M.count matroid.old < 2 ^ 32 }
+    ensures same { IsAlike (M.count matroid.old) (M.free matroid.old) (M.count matroid.new) (M.free matroid.new) }
+    ensures union { IfOk result (λ r. IsUnion (M.count matroid.old) (M.free matroid.old) k r.parts r.reached) }
+{
+    let mut owner = no_owners(alloc, matroid.size())?;
+    let reached = pack(alloc, matroid, &mut owner, k)?;
+    let parts = all_rows(alloc, &owner, k)?;
+    Ok(FreeParts { parts, reached })
+}
+
+/// Adds to the parts until they have the most elements, and gives the dead ones.
+fn pack<M: Matroid>(
+    alloc: Global,
+    matroid: &mut M,
+    owner: &mut [Option<u32>],
+    k: u32,
+) -> Result<Marks, NoMemory>
+    requires all { length owner.old ≡ M.count matroid.old }
+    requires few { M.count matroid.old < 2 ^ 32 }
+    requires packing { IsPacking (M.count matroid.old) (M.free matroid.old) k (own_of owner.old) }
+    ensures packing { OnOk result (IsPacking (M.count matroid.old) (M.free matroid.old) k (own_of owner.new)) }
+    ensures dead { IfOk result (AreDead (M.count matroid.old) (M.free matroid.old) k (own_of owner.new)) }
+    ensures rest { IfOk result (λ dead. (e : ℕ) → e < M.count matroid.old → own_of owner.new e ≡ None → has dead e ≡ true) }
+    ensures same { IsAlike (M.count matroid.old) (M.free matroid.old) (M.count matroid.new) (M.free matroid.new) }
+{
+    let mut set = blank(alloc, owner.len())?;
+    let mut search = Search::new(alloc, owner.len())?;
+    take_freely(matroid, &mut set, owner, &search.reached, k);
+    grow(matroid, &mut set, owner, &mut search, k)?;
+    let Search {
+        dead,
+        reached: _,
+        queue: _,
+        back: _,
+    } = search;
+    Ok(dead)
+}
+
+/// Searches from each element that no part has, until it is in a part or dead.
+fn grow<M: Matroid>(
+    matroid: &mut M,
+    set: &mut Marks,
+    owner: &mut [Option<u32>],
+    search: &mut Search,
+    k: u32,
+) -> Result<(), NoMemory>
+    requires all { length owner.old ≡ M.count matroid.old }
+    requires few { M.count matroid.old < 2 ^ 32 }
+    requires long { length set.old ≡ M.count matroid.old }
+    requires packing { IsPacking (M.count matroid.old) (M.free matroid.old) k (own_of owner.old) }
+    requires reached { length search.old.reached ≡ M.count matroid.old }
+    requires dead { AreDead (M.count matroid.old) (M.free matroid.old) k (own_of owner.old) search.old.dead }
+    ensures packing { OnOk result (IsPacking (M.count matroid.old) (M.free matroid.old) k (own_of owner.new)) }
+    ensures dead { OnOk result (AreDead (M.count matroid.old) (M.free matroid.old) k (own_of owner.new) search.new.dead) }
+    ensures rest { OnOk result ((e : ℕ) → e < M.count matroid.old → own_of owner.new e ≡ None → has search.new.dead e ≡ true) }
+    ensures same { IsAlike (M.count matroid.old) (M.free matroid.old) (M.count matroid.new) (M.free matroid.new) }
+{
+    'grow: while let Some(element) = next_root(owner, &search.dead) {
+        search.restart(element as u32)?;
+        match find_end(matroid, set, owner, search, k)? {
+            Some(end) => exchange(matroid, owner, search, end, k),
+            None => search.settle(),
+        }
+    }
+    Ok(())
+}
+
+/// The first element that no part has and that isn't dead.
+fn next_root(owner: &[Option<u32>], dead: &Marks) -> Option<usize>
+    requires { length owner.now ≡ length dead.now }
+    ensures below { IfSome result (λ e. e < length owner.now) }
+    ensures spare { IfSome result (λ e. own_of owner.now e ≡ None) }
+    ensures alive { IfSome result (λ e. has dead.now e ≡ false) }
+    ensures none { result ≡ None → (e : ℕ) → e < length owner.now → own_of owner.now e ≡ None → has dead.now e ≡ true }
+{
+    for i in 0..owner.len() {
+        if owner[i].is_none() && !*dead.item(i) {
+            return Some(i);
+        }
+    }
+    None
+}
+
+/// No part has an element.
+fn no_owners(alloc: Global, n: usize) -> Result<Vec<Option<u32>>, NoMemory>
+    ensures { IfOk result (λ v. v.items ≡ replicate n None) }
+{
+    let mut owner = Vec::new(alloc);
+    for _ in 0..n {
+        if owner.push(None).is_err() {
+            return Err(NoMemory);
+        }
+    }
+    Ok(owner)
+}
+
+/// The elements of a part.
+fn one_row(alloc: Global, owner: &[Option<u32>], number: u32) -> Result<Numbers, NoMemory>
+    requires { length owner.now < 2 ^ 32 }
+    ensures { IfOk result (λ row. row ≡ members (length owner.now) (own_of owner.now) number) }
+{
+    let mut row = Numbers::new(alloc);
+    for i in 0..owner.len() {
+        if is_part(owner[i], number) {
+            row.push(i as u32)?;
+        }
+    }
+    Ok(row)
+}
+
+/// The elements of each part.
+fn all_rows(alloc: Global, owner: &[Option<u32>], k: u32) -> Result<NumberRows, NoMemory>
+    requires { length owner.now < 2 ^ 32 }
+    ensures { IfOk result (λ rows. rows ≡ rows_of (length owner.now) (own_of owner.now) k) }
+{
+    let mut rows = NumberRows::new(alloc);
+    for number in 0..k {
+        let row = one_row(alloc, owner, number)?;
+        rows.push(row)?;
+    }
+    Ok(rows)
+}
