@@ -1,0 +1,3 @@
+-- Lemmas on lines, names and texts.
+pub mod LinesLemmas
+pub mod NamesLemmas
