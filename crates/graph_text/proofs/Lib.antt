@@ -1,3 +1,5 @@
 -- Lemmas on lines, names and texts.
 pub mod LinesLemmas
 pub mod NamesLemmas
+pub mod DraftLemmas
+pub mod CutLemmas
