@@ -1,6 +1,7 @@
 -- Searches in a list that is another list, seen through a function.
-use Rattle.std.proofs.Common.{◌≡◌, ℕ, ◌+◌, Bool, cond, not, ◌||◌, List, [], ◌∷◌, ◌++◌, length, get_or, refl, sym, ap, ◌∙◌, map, position, nat_lt, Some, None, arith}
-use Rattle.std.proofs.lemmas.List.{length-map}
+use Rattle.std.proofs.Common.{◌≡◌, ℕ, ◌+◌, Bool, false, cond, not, ◌||◌, List, [], ◌∷◌, ◌++◌, length, get_or, refl, sym, ap, ◌∙◌, map, position, nat_lt, Some, None, arith}
+use Rattle.std.proofs.lemmas.List.{length-map, map-append}
+use Rattle.std.proofs.lemmas.Bool.{cond-false}
 use Rattle.std.proofs.lemmas.List.Elements.{All-head, All-tail}
 use Rattle.std.proofs.lemmas.List.{get_or_append_left}
 use Rattle.std.proofs.lemmas.List.Quantifiers.{position-Some}
@@ -25,6 +26,10 @@ module _ {X Y : Type 0} (f : X → Y) where
   pub list_any-map : (p : Y → Bool) (xs : List X) → list_any p (map f xs) ≡ list_any (λ x. p (f x)) xs
   list_any-map p [] = refl
   list_any-map p (x ∷ xs) = ap (λ b. p (f x) || b) (list_any-map p xs)
+
+  -- a set with one element more
+  pub map-inserted : (test : Bool) (old new : List X) (x : X) → new ≡ cond test old (old ++ x ∷ []) → test ≡ false → map f new ≡ map f old ++ f x ∷ []
+  map-inserted test old new x e none = ap (map f) (e ∙ cond-false test old (old ++ x ∷ []) none) ∙ map-append f old (x ∷ [])
 
 -- names that are added behind change no line's ends
 pub ends_in-more : (names more : List (List ℕ)) (lines : List Line) → All (Fits (length names)) lines → map (ends_in (names ++ more)) lines ≡ map (ends_in names) lines

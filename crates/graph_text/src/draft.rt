@@ -1,4 +1,4 @@
-ghost use Rattle.std.specs.Prelude.{◌≡◌, ◌≢◌, ◌<◌, ◌++◌, ◌∷◌, [], length, is_some, position, IfOk, OnOk, OnErr, false, true, None, Some};
+ghost use Rattle.std.specs.Prelude.{◌≡◌, ◌≢◌, ◌<◌, ◌++◌, ◌∷◌, [], length, is_some, position, slice_get, IfOk, OnOk, OnErr, false, true, None, Some};
 ghost use Rattle.std.specs.List.{list_any};
 ghost use Rattle.std.specs.Str.{bytes_eq};
 ghost use Rattle.graph_core.specs.Name.{IsName};
@@ -123,6 +123,27 @@ impl Draft {
         Ok(())
     }
 
+    fn name(&self, at: usize) -> &[u8]
+        requires { at < length self.now.names }
+        ensures name { slice_get self.now.names at ≡ Some result.now }
+        ensures named { IsName result.now }
+    {
+        self.names.get_index(at).unwrap().as_slice()
+    }
+
+    fn to_names(&self, alloc: Global) -> Result<Vec<Name>, NoMemory>
+        ensures { IfOk result (λ names. names.items ≡ self.now.names) }
+    {
+        let mut names = Vec::new(alloc);
+        for at in 0..self.node_count() {
+            let name = Name::make(alloc, self.name(at))?;
+            if names.push(name).is_err() {
+                return Err(NoMemory);
+            }
+        }
+        Ok(names)
+    }
+
     /// The graph that was read.
     pub(crate) fn finish(self, alloc: Global) -> Result<Graph, NoMemory>
         requires kind { is_some self.kind ≡ true }
@@ -130,19 +151,12 @@ impl Draft {
         ensures graph { IfOk result (StandsFor self) }
         ensures size { IfOk result IsWithinSize }
     {
-        let Draft { kind, names, lines } = self;
-        let names = named(alloc, &names)?;
+        let names = self.to_names(alloc)?;
+        let Draft {
+            kind,
+            names: _words,
+            lines,
+        } = self;
         Ok(Graph::new(kind.unwrap(), names, lines))
     }
-}
-
-fn named(alloc: Global, words: &IndexSet<Vec<u8>>) -> Result<Vec<Name>, NoMemory> {
-    let mut names = Vec::new(alloc);
-    for at in 0..words.len() {
-        let name = Name::make(alloc, words.get_index(at).unwrap().as_slice())?;
-        if names.push(name).is_err() {
-            return Err(NoMemory);
-        }
-    }
-    Ok(names)
 }
