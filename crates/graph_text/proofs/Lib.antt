@@ -3,3 +3,5 @@ pub mod LinesLemmas
 pub mod NamesLemmas
 pub mod DraftLemmas
 pub mod CutLemmas
+pub mod TextLemmas
+pub mod ReadLemmas

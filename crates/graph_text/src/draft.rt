@@ -137,9 +137,9 @@ impl Draft {
         let mut names = Vec::new(alloc);
         for at in 0..self.node_count() {
             let name = Name::make(alloc, self.name(at))?;
-            if names.push(name).is_err() {
+            let Ok(()) = names.push(name) else {
                 return Err(NoMemory);
-            }
+            };
         }
         Ok(names)
     }
