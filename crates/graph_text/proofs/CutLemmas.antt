@@ -8,6 +8,10 @@ use Rattle.graph_text.specs.Said.{Said, line_says}
 use Rattle.graph_text.specs.Text.{sayings}
 use Rattle.graph_text.specs.Reading.{CutsNoLine}
 
+pub lines-empty : (bytes : List ℕ) → length bytes ≡ 0 → lines bytes ≡ []
+lines-empty [] empty = refl
+lines-empty (byte ∷ bytes) empty = absurd (omega (arith, empty))
+
 -- what isn't empty has a first line
 abbrev Begins : List (List ℕ) → Type 0
 Begins all = (first : List ℕ) × (more : List (List ℕ)) × (all ≡ first ∷ more)

@@ -5,3 +5,5 @@ pub mod DraftLemmas
 pub mod CutLemmas
 pub mod TextLemmas
 pub mod ReadLemmas
+pub mod SkipLemmas
+pub mod LawLemmas

@@ -1,10 +1,11 @@
-ghost use Rattle.std.specs.Prelude.{◌≡◌, ◌↔◌, IsTrue, IfOk, IfErr, OnOk, OnErr, MatchOption, None, []};
+ghost use Rattle.std.specs.Prelude.{◌≡◌, ◌+◌, ◌-◌, ◌<◌, ◌≤◌, ◌↔◌, length, take, IsTrue, IfOk, IfErr, OnOk, OnErr, IfSome, MatchOption, None, []};
 ghost use Rattle.graph_core.specs.Graph.{IsWithinSize};
+ghost use Rattle.graph_text.specs.Lines.{lines};
 ghost use Rattle.graph_text.specs.Item.{said};
 ghost use Rattle.graph_text.specs.Text.{sayings, missing};
 ghost use Rattle.graph_text.specs.Reading.{ReadsText, IsRefused, IsTextAlone, IsRefusedAlone, AllSkipped, IsFirstSaid};
 ghost use Rattle.graph_text.specs.Taken.{grown, CanTake, ReadsLines};
-ghost use Rattle.graph_text.specs.Said.{End};
+ghost use Rattle.graph_text.specs.Said.{Skipped, End};
 
 use crate::cause::cause;
 use crate::draft::Draft;
@@ -21,12 +22,8 @@ pub fn read_graph(alloc: Global, bytes: &[u8]) -> Result<(Graph, usize), GraphRe
     ensures size { IfOk result (λ found. IsWithinSize found.0) }
     ensures refused { IfErr result (IsRefused bytes.now) }
 {
-    let mut draft = Draft::new(alloc);
-    let ended = read_lines(alloc, &mut draft, bytes)?;
-    match draft.finish(alloc) {
-        Ok(graph) => Ok((graph, ended.bytes)),
-        Err(NoMemory) => Err(GraphRefusal::NoMemory),
-    }
+    let (graph, ended) = read_text(alloc, bytes)?;
+    Ok((graph, ended.bytes))
 }
 
 /// The graph that the text stands for. Behind its `end` line only skipped lines may follow.
@@ -35,18 +32,14 @@ pub fn read_graph_alone(alloc: Global, bytes: &[u8]) -> Result<Graph, GraphRefus
     ensures size { IfOk result (λ graph. IsWithinSize graph) }
     ensures refused { IfErr result (IsRefusedAlone bytes.now) }
 {
-    let mut draft = Draft::new(alloc);
-    let ended = read_lines(alloc, &mut draft, bytes)?;
+    let (graph, ended) = read_text(alloc, bytes)?;
     if let Some(at) = first_said(&bytes[ended.bytes..]) {
         return Err(GraphRefusal::Fault {
             line: ended.lines + at + 1,
             why: Why::BadLine,
         });
     }
-    match draft.finish(alloc) {
-        Ok(graph) => Ok(graph),
-        Err(NoMemory) => Err(GraphRefusal::NoMemory),
-    }
+    Ok(graph)
 }
 
 // Where the text at the front ends.
@@ -54,6 +47,22 @@ pub fn read_graph_alone(alloc: Global, bytes: &[u8]) -> Result<Graph, GraphRefus
 struct Ended {
     lines: usize,
     bytes: usize,
+}
+
+// The graph that the text at the front stands for, and where the text ends.
+fn read_text(alloc: Global, bytes: &[u8]) -> Result<(Graph, Ended), GraphRefusal>
+    ensures text { IfOk result (λ found. ReadsText bytes.now found.0 found.1.bytes) }
+    ensures lines { IfOk result (λ found. found.1.lines ≡ length (lines (take found.1.bytes bytes.now))) }
+    ensures few { IfOk result (λ found. found.1.lines + (length bytes.now - found.1.bytes) ≤ length bytes.now) }
+    ensures size { IfOk result (λ found. IsWithinSize found.0) }
+    ensures refused { IfErr result (IsRefused bytes.now) }
+{
+    let mut draft = Draft::new(alloc);
+    let ended = read_lines(alloc, &mut draft, bytes)?;
+    match draft.finish(alloc) {
+        Ok(graph) => Ok((graph, ended)),
+        Err(NoMemory) => Err(GraphRefusal::NoMemory),
+    }
 }
 
 // Reads the lines of the text, up to and with its end.
@@ -94,6 +103,12 @@ fn is_end(item: &Item<'_>) -> bool
     matches!(item, Item::End)
 }
 
+fn is_skipped(item: &Item<'_>) -> bool
+    ensures { IsTrue result ↔ (said item.now ≡ Skipped) }
+{
+    matches!(item, Item::Skipped)
+}
+
 fn missing(draft: &Draft) -> Why
     ensures { result ≡ missing draft.now }
 {
@@ -124,14 +139,15 @@ fn take(alloc: Global, draft: &mut Draft, item: &Item<'_>) -> Result<(), NoMemor
 
 // The place of the first line that isn't skipped.
 fn first_said(bytes: &[u8]) -> Option<usize>
-    ensures { MatchOption result (AllSkipped (sayings bytes.now)) (IsFirstSaid (sayings bytes.now)) }
+    ensures place { MatchOption result (AllSkipped (sayings bytes.now)) (IsFirstSaid (sayings bytes.now)) }
+    ensures within { IfSome result (λ at. at < length bytes.now) }
 {
     let mut rest = bytes;
     let mut line = 0;
     while !rest.is_empty() {
         let (first, after) = first_line(rest);
         let item = item_of_line(first);
-        if !matches!(item, Item::Skipped) {
+        if !is_skipped(&item) {
             return Some(line);
         }
         line += 1;
