@@ -7,3 +7,4 @@ pub mod TextLemmas
 pub mod ReadLemmas
 pub mod SkipLemmas
 pub mod LawLemmas
+pub mod SpellingLemmas

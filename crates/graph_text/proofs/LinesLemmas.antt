@@ -62,7 +62,7 @@ words_after xs n e l =
     let blank : is_blank (get_or xs n 0) ≡ true = rw e (passes_at_first is_blank xs 0 (rw (← e) l)) in
     ap words cut ∙ words-blank (get_or xs n 0) (drop (n + 1) xs) blank ∙ ap (λ m. words (drop (m + 1) xs)) e
 
-some_first : (word : List ℕ) (parts : List (List ℕ)) → 0 < length word → filter is_some_word (word ∷ parts) ≡ word ∷ filter is_some_word parts
+pub some_first : (word : List ℕ) (parts : List (List ℕ)) → 0 < length word → filter is_some_word (word ∷ parts) ≡ word ∷ filter is_some_word parts
 some_first word parts some = let t : is_some_word word ≡ true = lt-ltb _ _ some in ap (λ b. cond b (word ∷ filter is_some_word parts) (filter is_some_word parts)) t
 
 -- the first word ends at the first blank, or at the end

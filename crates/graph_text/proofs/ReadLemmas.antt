@@ -1,9 +1,8 @@
 -- What the reader keeps from line to line.
-use Rattle.std.proofs.Common.{◌≡◌, ℕ, ◌+◌, ◌-◌, ◌<◌, ◌≤◌, List, [], ◌∷◌, ◌++◌, length, take, drop, map, refl, sym, ap, subst, ◌∙◌, inl, inr, Some, None, true, append_assoc, append-nil, length-append, length-drop, take_all, arith}
-use Rattle.std.specs.Prelude.{slice_get, is_some}
-use Rattle.graph_core.specs.Graph.{GraphValue}
+use Rattle.std.proofs.Common.{◌≡◌, ℕ, ◌+◌, ◌-◌, ◌<◌, ◌≤◌, List, [], ◌∷◌, ◌++◌, length, take, drop, map, refl, sym, ap, subst, ◌∙◌, inl, inr, Some, None, append_assoc, append-nil, length-append, length-drop, take_all, arith}
+use Rattle.std.specs.Prelude.{slice_get}
 use Rattle.std.proofs.lemmas.Bool.{cases_lt}
-use Rattle.std.proofs.lemmas.List.{map-append, length-map, append_cancel_right, drop-drop, get_or-drop, take_at}
+use Rattle.std.proofs.lemmas.List.{map-append, append_cancel_right, drop-drop, get_or-drop, take_at}
 use Rattle.std.proofs.Math.Seq.{drop-append_seam}
 use Rattle.std.proofs.lemmas.Option.{slice_get_within, slice_get-get_or, get_or_from_slice_get}
 use Rattle.graph_text.specs.declared.refusal.Why.{Why}
@@ -11,11 +10,11 @@ use Rattle.graph_text.specs.Lines.{lines}
 use Rattle.graph_text.specs.Said.{Said, End, line_says}
 use Rattle.graph_text.specs.Before.{Content, content_of}
 use Rattle.graph_text.specs.Cause.{cause}
-use Rattle.graph_text.specs.Text.{sayings, said_at, cause_at, GoesOn, EndsAt, missing, StandsFor}
-use Rattle.graph_text.specs.Reading.{CutsNoLine, IsFault, ReadsText}
+use Rattle.graph_text.specs.Text.{sayings, said_at, cause_at, GoesOn, missing}
+use Rattle.graph_text.specs.Reading.{CutsNoLine, IsFault}
 use Rattle.graph_text.specs.Taken.{grown, ReadsLines}
 use Rattle.graph_text.proofs.CutLemmas.{lines-cut, lines-empty}
-use Rattle.graph_text.proofs.TextLemmas.{GoesOn-more, goes_on, said_split, cause_split, content_of-push, CanTake-None, End-None}
+use Rattle.graph_text.proofs.TextLemmas.{GoesOn-more, goes_on, said_split, cause_split, content_of-push, CanTake-None}
 
 -- The rest stands behind whole lines, so many, that have no fault and end no text.
 pub record Reading (bytes rest : List ℕ) (line : ℕ) (content : Content) : Type 0 where
@@ -156,19 +155,3 @@ fault_end bytes rest line content reading empty =
         here = inr (reading.line_is ∙ ap length (sym all), ap missing (reading.content_is ∙ ap content_of (sym all)));
       },
     )
-
--- ---- at the end of the text
-
--- a header and a node were read
-pub ends_ready : (bytes : List ℕ) (content : Content) (lines count : ℕ) → ReadsLines bytes content lines count → (is_some content.kind ≡ true) × (0 < length content.names)
-ends_ready bytes content lines count reads = End-None content ((λ i. cause (reads.content_is i) (sym reads.ends.ended i)) ∙ reads.ends.sound)
-
-pub ends_text : (bytes : List ℕ) (content : Content) (lines count : ℕ) (g : GraphValue) → ReadsLines bytes content lines count → StandsFor content g → ReadsText bytes g count
-ends_text bytes content lines count g reads says = record {
-  within = reads.within;
-  whole = reads.whole;
-  text = (reads.last, record { ends = reads.ends; says = subst (λ c. StandsFor c g) reads.content_is says }, reads.last_is);
-}
-
-pub ends_lines : (bytes : List ℕ) (content : Content) (many count : ℕ) → ReadsLines bytes content many count → many ≡ length (lines (take count bytes))
-ends_lines bytes content many count reads = omega (arith, reads.lines_is, reads.last_is, length-map (lines (take count bytes)) line_says)

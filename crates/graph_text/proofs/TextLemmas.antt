@@ -132,16 +132,6 @@ CanTake-None content (Arc tail head fixed) none = (CanJoin-arc content tail head
 CanTake-None content End none = tt
 CanTake-None content Other none = tt
 
--- an end without a fault stands behind a header and a node
-pub End-None : (content : Content) → cause content End ≡ None → (is_some content.kind ≡ true) × (0 < length content.names)
-End-None content none =
-    let some = eqb-false (length content.names) 0 (row content End 9 (lit< tt) none) in
-    (some_kind content.kind (row content End 0 (lit< tt) none), above (length content.names) some)
-  where
-    above : (n : ℕ) → (n ≡ 0 → ⊥) → 0 < n
-    above zero some = absurd (some refl)
-    above (suc n) some = omega arith
-
 -- ---- one line more
 
 no_first : (kinds : List Kind) → slice_get kinds 0 ≡ None → kinds ≡ []

@@ -1,6 +1,6 @@
-ghost use Rattle.std.specs.Prelude.{◌≡◌, ◌++◌, ◌<◌, length, map, IfOk, OnOk, All};
+ghost use Rattle.std.specs.Prelude.{◌≡◌, ◌++◌, map, IfOk, OnOk};
 ghost use Rattle.std.specs.List.{flat_map};
-ghost use Rattle.graph_core.specs.Graph.{IsWithinSize, GraphValue, Fits};
+ghost use Rattle.graph_core.specs.Graph.{IsWithinSize};
 ghost use Rattle.graph_text.specs.Text.{ends_in};
 ghost use Rattle.graph_text.specs.PlainText.{header_line, node_line, keyword, line_end, ends_line, plain_text};
 
@@ -32,6 +32,7 @@ fn push_header(text: &mut Vec<u8>, kind: Kind) -> Result<(), NoMemory>
 fn push_nodes(text: &mut Vec<u8>, graph: &Graph) -> Result<(), NoMemory>
     ensures { OnOk result (text.new.items ≡ text.old.items ++ flat_map node_line graph.now.names) }
 {
+    graph.known();
     for node in 0..graph.node_count() {
         push_node_line(text, graph.name(node as u32).bytes())?;
     }
@@ -47,9 +48,9 @@ fn push_node_line(text: &mut Vec<u8>, name: &[u8]) -> Result<(), NoMemory>
 }
 
 fn push_lines(text: &mut Vec<u8>, graph: &Graph) -> Result<(), NoMemory>
-    requires { All (Fits (length graph.now.names)) graph.now.lines }
     ensures { OnOk result (text.new.items ≡ text.old.items ++ flat_map (ends_line graph.now.kind) (map (ends_in graph.now.names) graph.now.lines)) }
 {
+    graph.known();
     for j in 0..graph.line_count() {
         let line = graph.line(j);
         let tail = graph.name(line.tail).bytes();
