@@ -20,8 +20,8 @@ use Rattle.graph_text.proofs.TextLemmas.{EndsAt-more}
 
 -- ---- one graph
 
--- a name stands once
-one_place : (names : List (List ℕ)) (i j : ℕ) → AllPairs (λ a b. a ≢ b) names → i < length names → j < length names → get_or names i [] ≡ get_or names j [] → i ≡ j
+-- a name has one place
+pub one_place : (names : List (List ℕ)) (i j : ℕ) → AllPairs (λ a b. a ≢ b) names → i < length names → j < length names → get_or names i [] ≡ get_or names j [] → i ≡ j
 one_place names i j distinct within within' same =
     elim (cases_lt i j) [
       | inl l ↦ absurd (distinct i j [] l within' same)

@@ -1,4 +1,5 @@
 -- Lemmas on lines, names and texts.
+pub mod ListLemmas
 pub mod LinesLemmas
 pub mod NamesLemmas
 pub mod DraftLemmas
@@ -8,3 +9,4 @@ pub mod ReadLemmas
 pub mod SkipLemmas
 pub mod LawLemmas
 pub mod SpellingLemmas
+pub mod BackLemmas

@@ -138,7 +138,7 @@ sayings-node name rest named =
     ap sayings text ∙ sayings-joined (codes "node" ∷ name ∷ []) rest (two (codes "node") name (literal (codes "node") refl) (IsWord-name name named))
 
 -- what the line of an edge or an arc says
-pub joins : Kind → Ends → Said
+abbrev pub joins : Kind → Ends → Said
 joins Undirected ends = Edge ends.tail ends.head
 joins Directed ends = Arc ends.tail ends.head ends.fixed
 
@@ -165,7 +165,6 @@ sayings-four keyword tail head last rest word p q word' =
 
 sayings-ends : (kind : Kind) (tail head : List ℕ) (fixed : Bool) (rest : List ℕ) → IsName tail → IsName head → (kind ≡ Undirected → fixed ≡ false)
     → sayings (ends_line kind (record { tail = tail; head = head; fixed = fixed }) ++ rest) ≡ joins kind (record { tail = tail; head = head; fixed = fixed }) ∷ sayings rest
-unfolding joins
 sayings-ends Undirected tail head false rest p q free = sayings-three (codes "edge") tail head rest (literal (codes "edge") refl) p q
 sayings-ends Undirected tail head true rest p q free = absurd (true≢false (free refl))
 sayings-ends Directed tail head false rest p q free = sayings-three (codes "arc") tail head rest (literal (codes "arc") refl) p q
