@@ -34,7 +34,7 @@ mod run {
     }
 
     pub fn begins(text: &[u8], start: &[u8]) -> bool {
-        start.len() <= text.len() && text[..start.len()] == *start
+        start.len() <= text.len() && &text[..start.len()] == start
     }
 
     /// Nodes n1, n2 and so on, and parallel edges between the first two.
