@@ -70,7 +70,7 @@ name-same g u v is a b e =
       | inr m ↦ elim (cases_lt v u) [ inl l ↦ absurd (is.distinct v u [] l a (sym e)) | inr k ↦ omega arith ]
     ]
 
-first-in : (names : List (List ℕ)) (X : List Bool) (name : List ℕ) (more : List (List ℕ)) → names_in names X ≡ name ∷ more → (j : ℕ) × (j < length names) × (get_or names j [] ≡ name)
+pub first-in : (names : List (List ℕ)) (X : List Bool) (name : List ℕ) (more : List (List ℕ)) → names_in names X ≡ name ∷ more → (j : ℕ) × (j < length names) × (get_or names j [] ≡ name)
 first-in [] X name more e = cc
 first-in (n ∷ names) [] name more e = cc
 first-in (n ∷ names) (true ∷ X) name more e = (0, omega arith, cc)
