@@ -1,4 +1,4 @@
-ghost use Rattle.std.specs.Prelude.{◌≡◌, ◌∷◌, None, length};
+ghost use Rattle.std.specs.Prelude.{◌≡◌, ◌∷◌, None, codes, length};
 ghost use Rattle.problem_defs.specs.Ask.{misfit_of, KIsInRange};
 ghost use Rattle.certificate_text.specs.Finds.{Finds};
 ghost use Rattle.certificate_text.specs.Keywords.{verb_word, NamesNodes};
@@ -42,7 +42,7 @@ fn ask_of_verb(graph: &Graph, verb: Verb, words: WordsLeft<'_>) -> Option<Ask>
     ensures { Finds (λ a. KIsInRange a × NamesNodes (length graph.now.names) a) (ask_words graph.now) (verb_word verb ∷ words_left words.entry) result }
 {
     match verb {
-        Verb::Flow => only_pair(graph, words).map(|(from, to)| Ask::Flow { from, to }),
+        Verb::Flow => flow_of(graph, words),
         Verb::CutTree => { if is_done(words) { Some(Ask::CutTree) } else { None } }
         Verb::Augment => only_k(words).map(|k| Ask::Augment { k }),
         Verb::AugmentArcs => only_k(words).map(|k| Ask::AugmentArcs { k }),
@@ -51,5 +51,14 @@ fn ask_of_verb(graph: &Graph, verb: Verb, words: WordsLeft<'_>) -> Option<Ask>
         Verb::Forests => { if is_done(words) { Some(Ask::Forests) } else { None } }
         Verb::Orient => only_k(words).map(|k| Ask::Orient { k }),
         Verb::Dijoin => { if is_done(words) { Some(Ask::Dijoin) } else { None } }
+    }
+}
+
+fn flow_of(graph: &Graph, words: WordsLeft<'_>) -> Option<Ask>
+    ensures { Finds (λ a. KIsInRange a × NamesNodes (length graph.now.names) a) (ask_words graph.now) (codes "flow" ∷ words_left words.entry) result }
+{
+    match only_pair(graph, words) {
+        Some((from, to)) => Some(Ask::Flow { from, to }),
+        None => None,
     }
 }

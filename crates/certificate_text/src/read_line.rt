@@ -1,4 +1,4 @@
-ghost use Rattle.std.specs.Prelude.{◌≡◌, ◌∷◌, IfOk};
+ghost use Rattle.std.specs.Prelude.{◌≡◌, ◌∷◌, IfOk, codes};
 ghost use Rattle.certificate_text.specs.Finds.{Finds};
 ghost use Rattle.certificate_text.specs.Keywords.{keyword_word};
 ghost use Rattle.certificate_text.specs.Valid.{IsValid};
@@ -54,11 +54,38 @@ fn line_of_keyword(
         Keyword::Path => Ok(numbers(alloc, m, words)?.map(|js| CertLine::Path(js))),
         Keyword::Part => Ok(numbers(alloc, m, words)?.map(|js| CertLine::Part(js))),
         Keyword::Join => Ok(numbers(alloc, m, words)?.map(|js| CertLine::Join(js))),
-        Keyword::Tree => Ok(only_weighted(graph, words).map(|(u, v, n)| CertLine::Tree(u, v, n))),
-        Keyword::Edge => Ok(only_pair(graph, words).map(|(u, v)| CertLine::Edge(u, v))),
-        Keyword::Arc => Ok(only_pair(graph, words).map(|(u, v)| CertLine::Arc(u, v))),
+        Keyword::Tree => Ok(tree_line(graph, words)),
+        Keyword::Edge => Ok(edge_line(graph, words)),
+        Keyword::Arc => Ok(arc_line(graph, words)),
         Keyword::Dual => Ok(only_kind(words).map(|kind| CertLine::Dual(kind))),
         Keyword::Set => Ok(side(alloc, graph, words)?.map(|side| CertLine::Set(side))),
         Keyword::End => Ok(if is_done(words) { Some(CertLine::End) } else { None }),
+    }
+}
+
+fn tree_line(graph: &Graph, words: WordsLeft<'_>) -> Option<CertLine>
+    ensures { Finds (IsValid graph.now) (words_of.words graph.now) (codes "tree" ∷ words_left words.entry) result }
+{
+    match only_weighted(graph, words) {
+        Some((tail, head, weight)) => Some(CertLine::Tree(tail, head, weight)),
+        None => None,
+    }
+}
+
+fn edge_line(graph: &Graph, words: WordsLeft<'_>) -> Option<CertLine>
+    ensures { Finds (IsValid graph.now) (words_of.words graph.now) (codes "edge" ∷ words_left words.entry) result }
+{
+    match only_pair(graph, words) {
+        Some((tail, head)) => Some(CertLine::Edge(tail, head)),
+        None => None,
+    }
+}
+
+fn arc_line(graph: &Graph, words: WordsLeft<'_>) -> Option<CertLine>
+    ensures { Finds (IsValid graph.now) (words_of.words graph.now) (codes "arc" ∷ words_left words.entry) result }
+{
+    match only_pair(graph, words) {
+        Some((tail, head)) => Some(CertLine::Arc(tail, head)),
+        None => None,
     }
 }
