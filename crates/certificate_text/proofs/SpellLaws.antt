@@ -17,13 +17,14 @@ use Rattle.certificate_text.specs.declared.line.CertLine.{CertLine}
 use Rattle.certificate_text.specs.declared.line.CertLine.TheVariants as line
 use Rattle.certificate_text.specs.declared.line.DualKind.{DualKind}
 use Rattle.certificate_text.specs.declared.line.DualKind.TheVariants as kind
+use Rattle.certificate_text.specs.Keywords.{NamesNodes}
 use Rattle.certificate_text.specs.Words.{words, spelled, names_in, name_of, numbers, kind_word, ask_words}
 use Rattle.certificate_text.specs.Valid.{IsValid}
 use Rattle.certificate_text.proofs.WordLaws.{ArePlain, is_ink, split-join, join-no_feed, no_feed, decimal-ink, name-ink}
 
 -- ---- words that differ
 
-abbrev eq_bytes : List ℕ → List ℕ → Bool
+abbrev pub eq_bytes : List ℕ → List ℕ → Bool
 eq_bytes [] [] = true
 eq_bytes [] (y ∷ ys) = false
 eq_bytes (x ∷ xs) [] = false
@@ -33,10 +34,10 @@ eq_bytes-same : (xs : List ℕ) → eq_bytes xs xs ≡ true
 eq_bytes-same [] = refl
 eq_bytes-same (x ∷ xs) = λ i. eq-eqb x x refl i && eq_bytes-same xs i
 
-clash : (xs ys : List ℕ) → eq_bytes xs ys ≡ false → xs ≡ ys → ⊥
+pub clash : (xs ys : List ℕ) → eq_bytes xs ys ≡ false → xs ≡ ys → ⊥
 clash xs ys differ same = true≢false (sym (eq_bytes-same xs) ∙ ap (eq_bytes xs) same ∙ differ)
 
-abbrev head_word : List (List ℕ) → List ℕ
+abbrev pub head_word : List (List ℕ) → List ℕ
 head_word [] = []
 head_word (w ∷ ws) = w
 
@@ -70,7 +71,7 @@ name-same g u v is a b e =
       | inr m ↦ elim (cases_lt v u) [ inl l ↦ absurd (is.distinct v u [] l a (sym e)) | inr k ↦ omega arith ]
     ]
 
-first-in : (names : List (List ℕ)) (X : List Bool) (name : List ℕ) (more : List (List ℕ)) → names_in names X ≡ name ∷ more → (j : ℕ) × (j < length names) × (get_or names j [] ≡ name)
+pub first-in : (names : List (List ℕ)) (X : List Bool) (name : List ℕ) (more : List (List ℕ)) → names_in names X ≡ name ∷ more → (j : ℕ) × (j < length names) × (get_or names j [] ≡ name)
 first-in [] X name more e = cc
 first-in (n ∷ names) [] name more e = cc
 first-in (n ∷ names) (true ∷ X) name more e = (0, omega arith, cc)
@@ -133,17 +134,26 @@ fourth a b c d w x y z e = cc
 behind : (a c : List ℕ) (more others : List (List ℕ)) → a ∷ more ≡ c ∷ others → more ≡ others
 behind a c more others e = cc
 
-ask-same : (g : GraphValue) (x y : Ask) → IsGraph g → KIsInRange x → misfit_of g x ≡ None → KIsInRange y → misfit_of g y ≡ None → ask_words g x ≡ ask_words g y → x ≡ y
+pub names-nodes : (g : GraphValue) (x : Ask) → misfit_of g x ≡ None → NamesNodes (length g.names) x
+names-nodes g (ask.Flow s t) m = flow-nodes g s t m
+names-nodes g ask.CutTree m = tt
+names-nodes g (ask.Augment k) m = tt
+names-nodes g (ask.AugmentArcs k) m = tt
+names-nodes g (ask.Arborescences r) m = root-node g r m
+names-nodes g ask.Trees m = tt
+names-nodes g ask.Forests m = tt
+names-nodes g (ask.Orient k) m = tt
+names-nodes g ask.Dijoin m = tt
+
+pub ask-same : (g : GraphValue) (x y : Ask) → IsGraph g → KIsInRange x → NamesNodes (length g.names) x → KIsInRange y → NamesNodes (length g.names) y → ask_words g x ≡ ask_words g y → x ≡ y
 ask-same g (ask.Flow s t) (ask.Flow u v) is k m l n e =
-    let a = flow-nodes g s t m in
-    let b = flow-nodes g u v n in
-    let p = name-same g s u is a.0 b.0 (second _ _ _ _ _ _ e) in
-    let q = name-same g t v is a.1 b.1 (third _ _ _ _ _ _ _ _ e) in
+    let p = name-same g s u is m.0 n.0 (second _ _ _ _ _ _ e) in
+    let q = name-same g t v is m.1 n.1 (third _ _ _ _ _ _ _ _ e) in
     λ i. ask.Flow (p i) (q i)
 ask-same g ask.CutTree ask.CutTree is k m l n e = refl
 ask-same g (ask.Augment j) (ask.Augment i) is k m l n e = ap ask.Augment (k-same j i k.1 l.1 (second _ _ _ _ _ _ e))
 ask-same g (ask.AugmentArcs j) (ask.AugmentArcs i) is k m l n e = ap ask.AugmentArcs (k-same j i k.1 l.1 (second _ _ _ _ _ _ e))
-ask-same g (ask.Arborescences r) (ask.Arborescences s) is k m l n e = ap ask.Arborescences (name-same g r s is (root-node g r m) (root-node g s n) (second _ _ _ _ _ _ e))
+ask-same g (ask.Arborescences r) (ask.Arborescences s) is k m l n e = ap ask.Arborescences (name-same g r s is m n (second _ _ _ _ _ _ e))
 ask-same g ask.Trees ask.Trees is k m l n e = refl
 ask-same g ask.Forests ask.Forests is k m l n e = refl
 ask-same g (ask.Orient j) (ask.Orient i) is k m l n e = ap ask.Orient (k-same j i k.1 l.1 (second _ _ _ _ _ _ e))
@@ -165,7 +175,7 @@ kind-word-same a b e = absurd (clash (kind_word a) (kind_word b) refl e)
 
 pub words-same : (g : GraphValue) (x y : CertLine) → IsGraph g → IsValid g x → IsValid g y → words g x ≡ words g y → x ≡ y
 words-same g line.Title line.Title is a b e = refl
-words-same g (line.Command x) (line.Command y) is a b e = ap line.Command (ask-same g x y is a.0 a.1 b.0 b.1 (behind _ _ _ _ e))
+words-same g (line.Command x) (line.Command y) is a b e = ap line.Command (ask-same g x y is a.0 (names-nodes g x a.1) b.0 (names-nodes g y b.1) (behind _ _ _ _ e))
 words-same g (line.Value m) (line.Value n) is a b e = ap line.Value (decimal_injective m n a b (second _ _ _ _ _ _ e))
 words-same g line.Impossible line.Impossible is a b e = refl
 words-same g (line.Path x) (line.Path y) is a b e = ap line.Path (numbers-same _ x y is.few a b (behind _ _ _ _ e))
@@ -251,7 +261,7 @@ split-all : (ws : List (List ℕ)) → 0 < length ws → ArePlain ws → slice_s
 split-all [] some plain = absurd (omega (arith, some))
 split-all (w ∷ ws) some plain = split-join w ws plain.0 plain.1
 
-some-word : (g : GraphValue) (x : CertLine) → 0 < length (words g x)
+pub some-word : (g : GraphValue) (x : CertLine) → 0 < length (words g x)
 some-word g line.Title = omega arith
 some-word g (line.Command x) = omega arith
 some-word g (line.Value n) = omega arith

@@ -15,3 +15,7 @@ pub mod Reading
 pub mod Places
 pub mod Loop
 pub mod Refusal
+pub mod Finds
+pub mod WordsLeft
+pub mod Keywords
+pub mod SideRead

@@ -14,6 +14,7 @@ ghost use Rattle.certificate_text.specs.Refusal.{IsRefused};
 
 use crate::body::make_body;
 use crate::gather::{empty_content, take};
+use crate::read_line::read_line;
 use crate::place::{Place, is_done, is_lost, next_place};
 use crate::tables::{first_row, second_row, slots};
 use crate::text_lines::whole_line;
@@ -28,13 +29,6 @@ use std::alloc::Global;
 pub enum CertRefusal {
     Bad { line: usize },
     NoMemory,
-}
-
-/// What the line says, where it is a line of a certificate for the graph.
-pub fn read_line(alloc: Global, graph: &Graph, line: &[u8]) -> Result<Option<CertLine>, NoMemory>
-    ensures { IfOk result (λ found. MatchOption found ((y : CertLine) → IsValid graph.now y → spelled graph.now y ≢ line.now) (λ y. IsValid graph.now y × (spelled graph.now y ≡ line.now))) }
-{
-    Ok(None)
 }
 
 // Whether both rows have lost.
