@@ -1,5 +1,5 @@
 -- Words have one meaning.
-use Rattle.std.proofs.Common.{◌≡◌, ℕ, zero, suc, ◌-◌, ◌^◌, ◌<◌, ◌≤◌, ◌⊎◌, List, [], ◌∷◌, refl, sym, ◌∙◌, ap, subst, arith, inl, inr}
+use Rattle.std.proofs.Common.{◌≡◌, ℕ, zero, suc, ◌-◌, ◌^◌, ◌<◌, ◌≤◌, ◌⊎◌, List, [], ◌∷◌, refl, sym, ◌∙◌, ap, arith, inl, inr}
 use Rattle.std.specs.Fmt.{decimal}
 use Rattle.std.specs.Str.Parse.{digits_value}
 use Rattle.std.proofs.lemmas.Fmt.{digits_value-decimal}
@@ -11,7 +11,7 @@ use Rattle.connect_words.specs.declared.slot.Verb.{Verb}
 use Rattle.connect_words.specs.declared.slot.Verb.TheVariants as verb
 use Rattle.connect_words.specs.Commands.{Fill, word, Writes, kind_word, IsNodes, IsNumber}
 use Rattle.connect_words.specs.Places.{IsFirstBadPlace}
-use Rattle.connect_words.specs.Slots.{verb_word, verb_of}
+use Rattle.connect_words.specs.Slots.{verb_of}
 use Rattle.connect_words.proofs.NumberLemmas.{own}
 use Rattle.connect_words.proofs.CommandLemmas.{writes_slots}
 use Rattle.connect_words.proofs.PlaceLemmas.{writes_some}

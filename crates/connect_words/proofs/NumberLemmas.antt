@@ -1,5 +1,5 @@
 -- Decimals, and what is read as a number.
-use Rattle.std.proofs.Common.{◌≡◌, ◌≢◌, ◌↔◌, Bool, IsTrue, Option, Some, None, IfSome, IfNone, unwrap_or, ℕ, zero, suc, ◌^◌, ◌<◌, ◌≤◌, List, length, get_or, Result, Ok, Err, IfOk, IfErr, refl, arith, sym, ◌∙◌, ap, subst}
+use Rattle.std.proofs.Common.{◌≡◌, ◌≢◌, ◌↔◌, Bool, IsTrue, Option, Some, None, IfSome, IfNone, unwrap_or, ℕ, zero, suc, ◌^◌, ◌<◌, ◌≤◌, List, length, get_or, Result, Ok, Err, refl, arith, sym, ◌∙◌, ap}
 use Rattle.std.specs.Fmt.{decimal}
 use Rattle.std.specs.Str.Parse.{AllDigits, digits_value, ParsesUnsigned}
 use Rattle.std.proofs.lemmas.Str.Parse.{IsNumeralModel, parse_plain}

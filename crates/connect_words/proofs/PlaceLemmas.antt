@@ -1,5 +1,5 @@
 -- Why a place is the first bad one.
-use Rattle.std.proofs.Common.{◌≡◌, ◌≢◌, ℕ, zero, suc, ◌+◌, ◌<◌, ◌≤◌, ◌⊎◌, List, [], ◌∷◌, Option, Some, None, length, slice_get, refl, sym, ◌∙◌, ap, subst, arith, add-one, inl, inr}
+use Rattle.std.proofs.Common.{◌≡◌, ◌≢◌, ℕ, zero, suc, ◌+◌, ◌<◌, ◌⊎◌, List, [], ◌∷◌, Some, None, length, slice_get, refl, sym, ◌∙◌, ap, subst, arith, inl, inr}
 use Rattle.std.specs.Fmt.{decimal}
 use Rattle.connect_words.specs.declared.command.Command.{Command}
 use Rattle.connect_words.specs.declared.command.Command.TheVariants.{Flow, CutTree, Augment, AugmentArcs, Arborescences, Trees, Forests, Orient, Dijoin, Check, Trial}
@@ -9,7 +9,7 @@ use Rattle.connect_words.specs.declared.slot.Verb.TheVariants as verb
 use Rattle.connect_words.specs.declared.slot.Slot.{Slot}
 use Rattle.connect_words.specs.declared.slot.Slot.TheVariants.{Name, Kind, K, Nodes, Number}
 use Rattle.connect_words.specs.Commands.{Writes, kind_word}
-use Rattle.connect_words.specs.Places.{SomeCommandBegins, IsFirstBadPlace}
+use Rattle.connect_words.specs.Places.{IsFirstBadPlace}
 use Rattle.connect_words.specs.Slots.{Suits, SuitAll, Takes, slots, verb_word, verb_of}
 use Rattle.connect_words.proofs.CommandLemmas.{writes_slots, some_command}
 use Rattle.connect_words.proofs.VerbLemmas.{verb_word_injective}
@@ -99,9 +99,9 @@ pub record StopsAt (v : Verb) (ws : List (List ℕ)) (n : ℕ) : Type 0 where
 
 no_further : (v : Verb) (ws full : List (List ℕ)) (n : ℕ) → StopsAt v ws n → SuitAll (slots v) full → slice_get full n ≡ slice_get ws n → ⊥
 no_further v ws full n stops suit e = elim stops.stop [
-    inl (within, refuses) ↦ refuses (subst (λ w. Takes (slice_get (slots v) n) w) e (suit_at (slots v) full n suit within))
+  | inl (within, refuses) ↦ refuses (subst (λ w. Takes (slice_get (slots v) n) w) e (suit_at (slots v) full n suit within))
   | inr (all, more) ↦ let r : n < length full = reaches full ws n e more in let l : length full ≡ length (slots v) = suit_length (slots v) full suit in omega (arith, all, r, l)
-  ]
+]
 
 later_is_bad : (v : Verb) (ws : List (List ℕ)) (n : ℕ) → StopsAt v ws n → (command : Command) (full : List (List ℕ)) → Writes command full → ((at : ℕ) → at < suc (suc n) → slice_get full at ≡ slice_get (verb_word v ∷ ws) at) → ⊥
 later_is_bad v ws n stops command [] writes agree = writes_some command writes

@@ -1,13 +1,13 @@
 -- What the reader finds in the words, as a command or as the first bad place.
-use Rattle.std.proofs.Common.{◌≡◌, ◌≢◌, ℕ, zero, suc, ◌+◌, ◌<◌, ◌≤◌, ◌⊎◌, List, [], ◌∷◌, Option, Some, None, length, slice_get, refl, sym, ◌∙◌, ap, subst, arith, add-one, inl, inr}
+use Rattle.std.proofs.Common.{◌≡◌, ℕ, zero, suc, ◌+◌, ◌<◌, ◌≤◌, ◌⊎◌, List, [], ◌∷◌, Option, Some, length, slice_get, refl, sym, ◌∙◌, ap, subst, arith, add-one, inl, inr}
 use Rattle.connect_words.specs.declared.command.Command.{Command}
 use Rattle.connect_words.specs.declared.slot.Verb.{Verb}
 use Rattle.connect_words.specs.declared.slot.Slot.{Slot}
 use Rattle.connect_words.specs.Commands.{Writes}
 use Rattle.connect_words.specs.Places.{IsFirstBadPlace}
-use Rattle.connect_words.specs.Slots.{Suits, SuitAll, Takes, slots, verb_word, verb_of, Reads}
+use Rattle.connect_words.specs.Slots.{SuitAll, Takes, slots, verb_word, verb_of, Reads}
 use Rattle.connect_words.proofs.CommandLemmas.{slots_write}
-use Rattle.connect_words.proofs.PlaceLemmas.{some_same, StopsAt, stop_is_bad}
+use Rattle.connect_words.proofs.PlaceLemmas.{some_same, stop_is_bad}
 
 le_cases : (m n : ℕ) → m ≤ n → (m < n) ⊎ (m ≡ n)
 le_cases zero zero h = inr refl
@@ -57,4 +57,4 @@ pub filled_writes : (words : List (List ℕ)) (v : Verb) (ss : List Slot) (n : �
 filled_writes [] v ss n command f all few verb_is reads = let e = f.head in absurd cc
 filled_writes (w ∷ ws) v ss n command f all few verb_is reads =
     write_all command ws ss v w (sym verb_is) (some_same f.head) f.slots_are
-      (collect ss ws (λ at below. behind w ws (slice_get ss at) at (f.before at (omega (arith, below, all)))) (omega (arith, few))) reads
+    (collect ss ws (λ at below. behind w ws (slice_get ss at) at (f.before at (omega (arith, below, all)))) (omega (arith, few))) reads
