@@ -6,7 +6,7 @@ use Rattle.std.proofs.lemmas.Str.Parse.{IsNumeralModel, parse_plain}
 use Rattle.std.proofs.lemmas.Fmt.{decimal-digits_value, decimal_injective, decimal_digit, first_decimal, parse-decimal}
 use Rattle.connect_words.specs.Slots.{IsDecimal, ReadsNumber}
 
-some_injective : {x y : List ℕ} → Some x ≡ Some y → x ≡ y
+pub some_injective : {x y : List ℕ} → Some x ≡ Some y → x ≡ y
 some_injective e = cc
 
 pub own : IsNumeralModel (AllDigits 10) (digits_value 10)
