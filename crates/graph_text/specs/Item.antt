@@ -1,0 +1,13 @@
+-- What an item says, without where its words lie.
+use Rattle.graph_text.specs.declared.item.Item.{Item}
+use Rattle.graph_text.specs.declared.item.Item.TheVariants as item
+use Rattle.graph_text.specs.Said.{Said, Skipped, Header, Node, Edge, Arc, End, Other}
+
+abbrev pub said : Item → Said
+said item.Skipped = Skipped
+said (item.Header kind) = Header kind
+said (item.Node name) = Node name.now
+said (item.Edge tail head) = Edge tail.now head.now
+said (item.Arc tail head fixed) = Arc tail.now head.now fixed
+said item.End = End
+said item.Other = Other

@@ -1,0 +1,37 @@
+use thiserror::Error;
+
+/// Why a line is no line of a graph text.
+#[derive(Clone, Copy, Debug, PartialEq, Eq, Error)]
+pub enum Why {
+    #[error("the text does not begin with `graph undirected` or `graph directed`")]
+    NoHeader,
+    #[error("the line is no node, edge, arc or end")]
+    BadLine,
+    #[error("a name has to be 1 to 32 letters, digits, `_`, `.` or `-`")]
+    BadName,
+    #[error("a node has this name already")]
+    TwiceNode,
+    #[error("no node has this name yet")]
+    UnknownNode,
+    #[error("the two ends are one node")]
+    Loop,
+    #[error("an undirected graph has edges, a directed graph has arcs")]
+    WrongKind,
+    #[error("the graph has no node")]
+    NoNode,
+    #[error("the text has no end line")]
+    NoEnd,
+    #[error("the graph has more than 128 nodes")]
+    ManyNodes,
+    #[error("the graph has more than 2048 edges or arcs")]
+    ManyLines,
+}
+
+/// Why no graph was read. Lines are counted from 1.
+#[derive(Clone, Copy, Debug, PartialEq, Eq, Error)]
+pub enum GraphRefusal {
+    #[error("line {line}: {why}")]
+    Fault { line: usize, why: Why },
+    #[error("no memory is left")]
+    NoMemory,
+}

@@ -1,0 +1,105 @@
+ghost use Rattle.std.specs.Prelude.{◌≡◌, ◌++◌, map, IfOk, OnOk};
+ghost use Rattle.std.specs.List.{flat_map};
+ghost use Rattle.graph_core.specs.Graph.{IsWithinSize};
+ghost use Rattle.graph_text.specs.Text.{ends_in};
+ghost use Rattle.graph_text.specs.PlainText.{header_line, node_line, keyword, line_end, ends_line, plain_text};
+
+use graph_core::{Graph, Kind, NoMemory};
+use std::alloc::Global;
+
+/// The plain text of the graph.
+pub fn write_graph(alloc: Global, graph: &Graph) -> Result<Vec<u8>, NoMemory>
+    requires { IsWithinSize graph.now }
+    ensures { IfOk result (λ text. text.items ≡ plain_text graph.now) }
+{
+    let mut text = Vec::new(alloc);
+    push_header(&mut text, graph.kind())?;
+    push_nodes(&mut text, graph)?;
+    push_lines(&mut text, graph)?;
+    push_text(&mut text, b"end\n")?;
+    Ok(text)
+}
+
+fn push_header(text: &mut Vec<u8>, kind: Kind) -> Result<(), NoMemory>
+    ensures { OnOk result (text.new.items ≡ text.old.items ++ header_line kind) }
+{
+    match kind {
+        Kind::Undirected => push_text(text, b"graph undirected\n"),
+        Kind::Directed => push_text(text, b"graph directed\n"),
+    }
+}
+
+fn push_nodes(text: &mut Vec<u8>, graph: &Graph) -> Result<(), NoMemory>
+    ensures { OnOk result (text.new.items ≡ text.old.items ++ flat_map node_line graph.now.names) }
+{
+    graph.known();
+    for node in 0..graph.node_count() {
+        push_node_line(text, graph.name(node as u32).bytes())?;
+    }
+    Ok(())
+}
+
+fn push_node_line(text: &mut Vec<u8>, name: &[u8]) -> Result<(), NoMemory>
+    ensures { OnOk result (text.new.items ≡ text.old.items ++ node_line name.now) }
+{
+    push_text(text, b"node ")?;
+    push_text(text, name)?;
+    push_text(text, b"\n")
+}
+
+fn push_lines(text: &mut Vec<u8>, graph: &Graph) -> Result<(), NoMemory>
+    ensures { OnOk result (text.new.items ≡ text.old.items ++ flat_map (ends_line graph.now.kind) (map (ends_in graph.now.names) graph.now.lines)) }
+{
+    graph.known();
+    for j in 0..graph.line_count() {
+        let line = graph.line(j);
+        let tail = graph.name(line.tail).bytes();
+        let head = graph.name(line.head).bytes();
+        push_ends_line(text, graph.kind(), tail, head, line.fixed)?;
+    }
+    Ok(())
+}
+
+fn push_ends_line(
+    text: &mut Vec<u8>,
+    kind: Kind,
+    tail: &[u8],
+    head: &[u8],
+    fixed: bool,
+) -> Result<(), NoMemory>
+    ensures { OnOk result (text.new.items ≡ text.old.items ++ ends_line kind (record { tail = tail.now; head = head.now; fixed = fixed })) }
+{
+    push_keyword(text, kind)?;
+    push_text(text, tail)?;
+    push_text(text, b" ")?;
+    push_text(text, head)?;
+    push_line_end(text, fixed)
+}
+
+fn push_keyword(text: &mut Vec<u8>, kind: Kind) -> Result<(), NoMemory>
+    ensures { OnOk result (text.new.items ≡ text.old.items ++ keyword kind) }
+{
+    match kind {
+        Kind::Undirected => push_text(text, b"edge "),
+        Kind::Directed => push_text(text, b"arc "),
+    }
+}
+
+fn push_line_end(text: &mut Vec<u8>, fixed: bool) -> Result<(), NoMemory>
+    ensures { OnOk result (text.new.items ≡ text.old.items ++ line_end fixed) }
+{
+    if fixed {
+        push_text(text, b" fixed\n")
+    } else {
+        push_text(text, b"\n")
+    }
+}
+
+fn push_text(text: &mut Vec<u8>, part: &[u8]) -> Result<(), NoMemory>
+    ensures { OnOk result (text.new.items ≡ text.old.items ++ part.now) }
+{
+    match text.extend_from_slice(part) {
+        Ok(()) => Ok(()),
+        Err(_) => Err(NoMemory),
+    }
+}
