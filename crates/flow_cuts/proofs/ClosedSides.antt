@@ -1,8 +1,7 @@
 -- A side that no step with room leaves is a least cut, and the other way round.
-use Rattle.std.proofs.Common.{◌≡◌, ℕ, suc, zero, ◌+◌, ◌-◌, ◌*◌, ◌<◌, ◌≤◌, List, [], ◌∷◌, length, get_or, Bool, true, false, cond, refl, sym, ap, subst, arith}
-use Rattle.std.specs.Prelude.{sum_by, slice_index_or, slice_set}
-use Rattle.std.proofs.Math.ListN.{set}
-use Rattle.std.proofs.lemmas.List.Sums.{sum_by-set, get_or-le-sum_by, sum_by-cons}
+use Rattle.std.proofs.Common.{◌≡◌, ℕ, suc, zero, ◌<◌, ◌≤◌, List, [], ◌∷◌, length, get_or, Bool, true, false, refl, arith}
+use Rattle.std.specs.Prelude.{sum_by}
+use Rattle.std.proofs.lemmas.List.Sums.{get_or-le-sum_by, sum_by-cons}
 use Rattle.flow_cuts.specs.declared.network.Link.{Link}
 use Rattle.flow_cuts.specs.declared.network.Step.{Step}
 use Rattle.flow_cuts.specs.declared.network.Way.{Way}
@@ -11,8 +10,7 @@ use Rattle.graph_core.specs.Side.{has}
 use Rattle.flow_cuts.specs.declared.network.Cap.{Cap}
 use Rattle.flow_cuts.specs.Network.{across, capacity, Separates}
 use Rattle.flow_cuts.specs.Cuts.{IsLeastCut}
-use Rattle.flow_cuts.specs.Residual.{from_of, to_of, room_of, moved, link_at, no_link, from_at, to_at, room_at, pushed, room_out, room_leaving, AreLinksOf, IsFlow}
-
+use Rattle.flow_cuts.specs.Residual.{from_of, to_of, room_of, link_at, no_link, from_at, to_at, room_at, room_out, room_leaving, IsFlow}
 
 pub sum_by_zeros : {A : Type 0} (f : A → ℕ) (d : A) (xs : List A) → ((j : ℕ) → j < length xs → f (get_or xs j d) ≡ 0) → sum_by f xs ≡ 0
 sum_by_zeros f d [] h = refl
@@ -72,4 +70,3 @@ pub closed_least : (n : ℕ) (inside outside : List Bool) (arcs : List Cap) (lin
     (X : List Bool) → IsLeastCut n inside outside arcs value X → IsClosedSide X links
 closed_least n inside outside arcs links value flow X cut =
     closed_leaving X links (omega (arith, flow.sent X cut.separates, cut.value_is))
-

@@ -1,23 +1,23 @@
 -- The smallest and the largest least cut, from what searches reach.
-use Rattle.std.proofs.Common.{◌≡◌, ◌≢◌, ◌∙◌, ℕ, suc, zero, ◌+◌, ◌-◌, ◌<◌, ◌≤◌, List, [], ◌∷◌, length, get_or, Bool, true, false, cond, refl, sym, ap, subst, arith, inl, inr}
-use Rattle.std.specs.Prelude.{slice_index_or, ◌⊎◌, map, not, nat_lt}
+use Rattle.std.proofs.Common.{◌≡◌, ◌∙◌, ℕ, suc, zero, ◌<◌, ◌≤◌, List, [], ◌∷◌, length, Bool, true, false, refl, sym, ap, subst, arith, inl, inr}
+use Rattle.std.specs.Prelude.{◌⊎◌, map, not}
 use Rattle.std.proofs.Math.ListN.{get_or-map}
 use Rattle.std.proofs.lemmas.List.{length-map}
-use Rattle.std.proofs.lemmas.Grind.{common_steps, elements}
+use Rattle.std.proofs.lemmas.Grind.{common_steps}
 use Rattle.std.proofs.lemmas.Bool.Decides.{nat_tests}
 use Rattle.flow_cuts.specs.declared.network.Link.{Link}
 use Rattle.flow_cuts.specs.declared.network.Step.{Step}
 use Rattle.flow_cuts.specs.declared.network.Way.{Way}
 use Rattle.flow_cuts.specs.declared.network.Way.TheVariants.{Forth, Back}
 use Rattle.flow_cuts.specs.declared.search.Mark.{Mark}
-use Rattle.flow_cuts.specs.Residual.{from_of, to_of, room_of, link_at, no_link, from_at, to_at, room_at, mirrored, SameEnds, IsFlow}
+use Rattle.flow_cuts.specs.Residual.{from_of, to_of, room_of, link_at, from_at, to_at, room_at, mirrored, SameEnds, IsFlow}
 use Rattle.graph_core.specs.Side.{has}
 use Rattle.flow_cuts.specs.declared.network.Cap.{Cap}
 use Rattle.flow_cuts.specs.Network.{Separates}
-use Rattle.flow_cuts.specs.Cuts.{IsLeastCut, IsSmallestCut, IsLargestCut, IsWithin}
-use Rattle.flow_cuts.specs.Search.{unseen, no_mark, mark_at, is_seen, IsReached, IsSearchForest, IsAdjacency, IsSearched, IsMissed, IsClosedTree}
+use Rattle.flow_cuts.specs.Cuts.{IsSmallestCut, IsLargestCut}
+use Rattle.flow_cuts.specs.Search.{unseen, no_mark, mark_at, is_seen, IsSearchForest, IsAdjacency, IsSearched, IsMissed}
 use Rattle.flow_cuts.proofs.ClosedSides.{IsClosedSide, least_closed, closed_least}
-use Rattle.flow_cuts.proofs.SearchTrees.{eq_or_not, is_seen-of, is_seen-not, seen_below}
+use Rattle.flow_cuts.proofs.SearchTrees.{is_seen-of, is_seen-not, seen_below}
 
 -- a fact of nodes that each step with room carries on
 pub record IsCarried (P : ℕ → Type 0) (ls : List Link) : Type 0 where

@@ -1,13 +1,11 @@
 -- Walks along the links of a graph are walks along its lines.
-use Rattle.std.proofs.Common.{◌≡◌, ◌≢◌, ◌∙◌, ℕ, zero, suc, ◌+◌, ◌<◌, ◌≤◌, List, [], ◌∷◌, length, Option, Some, None, refl, sym, ap, subst, arith, inl, inr}
-use Rattle.std.specs.Prelude.{map, All, slice_get, slice_index_or, sum_by, cond, ◌==◌}
-use Rattle.graph_core.specs.Picked.{occurrences}
-use Rattle.graph_core.specs.Walks.{Leads, LeadsAt, IsWay, IsWalk, AreDisjoint}
+use Rattle.std.proofs.Common.{◌≡◌, ◌≢◌, ℕ, zero, suc, ◌<◌, List, [], ◌∷◌, length, refl, ap, arith, inl, inr}
+use Rattle.std.specs.Prelude.{map, slice_index_or, cond, ◌==◌}
+use Rattle.graph_core.specs.Walks.{Leads, LeadsAt, IsWay}
 use Rattle.graph_core.specs.declared.graph.Kind.{Kind}
 use Rattle.graph_core.specs.declared.graph.Kind.TheVariants.{Undirected, Directed}
 use Rattle.graph_core.specs.declared.graph.Line.{Line}
 use Rattle.graph_core.proofs.Counting.{sum_by-concat}
-use Rattle.flow_cuts.specs.declared.network.Link.{Link}
 use Rattle.flow_cuts.specs.declared.network.Way.{Way}
 use Rattle.flow_cuts.specs.declared.network.Way.TheVariants.{Forth, Back}
 use Rattle.flow_cuts.specs.Flow.{Origin, AreWalks}

@@ -1,7 +1,9 @@
+pub mod ArcLaws
 pub mod ClosedSides
 pub mod ExtremeSides
 pub mod GraphWalks
 pub mod LinkLaws
+pub mod Menger
 pub mod OpenWays
 pub mod Pushes
 pub mod RisingWays

@@ -1,16 +1,16 @@
 -- The steps from a side to a node, and a push along one of them.
-use Rattle.std.proofs.Common.{◌≡◌, ◌≢◌, ◌∙◌, ℕ, suc, zero, ◌+◌, ◌-◌, ◌*◌, ◌<◌, ◌≤◌, ◌^◌, List, [], ◌∷◌, length, get_or, Bool, true, false, cond, refl, sym, ap, subst, arith, inl, inr}
-use Rattle.std.specs.Prelude.{slice_index_or, slice_set, ◌⊎◌}
+use Rattle.std.proofs.Common.{◌≡◌, ◌≢◌, ◌∙◌, ℕ, suc, zero, ◌+◌, ◌<◌, ◌≤◌, List, length, get_or, Bool, false, refl, sym, ap, subst, arith, inl, inr}
+use Rattle.std.specs.Prelude.{slice_set}
 use Rattle.std.proofs.Math.ListN.{length-set}
-use Rattle.std.proofs.lemmas.Grind.{common_steps, elements}
+use Rattle.std.proofs.lemmas.Grind.{common_steps}
 use Rattle.flow_cuts.specs.declared.network.Link.{Link}
 use Rattle.flow_cuts.specs.declared.network.Step.{Step}
 use Rattle.flow_cuts.specs.declared.network.Way.{Way}
 use Rattle.flow_cuts.specs.declared.network.Way.TheVariants.{Forth, Back}
 use Rattle.flow_cuts.specs.declared.search.Mark.{Mark}
-use Rattle.flow_cuts.specs.Residual.{from_of, to_of, room_of, moved, link_at, no_link, from_at, to_at, room_at, pushed, EachFits, SameEnds, SameSums}
+use Rattle.flow_cuts.specs.Residual.{from_of, to_of, room_of, moved, link_at, from_at, to_at, room_at, pushed, EachFits, SameEnds, SameSums}
 use Rattle.graph_core.specs.Side.{has}
-use Rattle.flow_cuts.specs.Search.{unseen, no_step, mark_at, row_at, IsReached, IsSearchForest, IsAdjacency, IsOpenWay}
+use Rattle.flow_cuts.specs.Search.{unseen, no_step, mark_at, IsSearchForest, IsAdjacency, IsOpenWay}
 use Rattle.flow_cuts.proofs.SearchTrees.{eq_or_not, any_default}
 
 from-moved : (l : Link) (w x : Way) (a : ℕ) → from_of (moved l w a) x ≡ from_of l x

@@ -1,8 +1,6 @@
 -- What a push along a step changes, for all sides at once.
-use Rattle.std.proofs.Common.{◌≡◌, ℕ, suc, zero, ◌+◌, ◌-◌, ◌*◌, ◌<◌, ◌≤◌, List, [], ◌∷◌, length, get_or, Bool, true, false, cond, refl, sym, ap, subst, arith}
-use Rattle.std.specs.Prelude.{sum_by, slice_index_or, slice_set}
-use Rattle.std.proofs.Math.ListN.{set}
-use Rattle.std.proofs.lemmas.List.Sums.{sum_by-set, get_or-le-sum_by, sum_by-cons}
+use Rattle.std.proofs.Common.{◌≡◌, ℕ, ◌+◌, ◌-◌, ◌<◌, ◌≤◌, List, length, Bool, true, false, cond, ap, arith}
+use Rattle.std.proofs.lemmas.List.Sums.{sum_by-set}
 use Rattle.flow_cuts.specs.declared.network.Link.{Link}
 use Rattle.flow_cuts.specs.declared.network.Step.{Step}
 use Rattle.flow_cuts.specs.declared.network.Way.{Way}
@@ -10,9 +8,7 @@ use Rattle.flow_cuts.specs.declared.network.Way.TheVariants.{Forth, Back}
 use Rattle.graph_core.specs.Side.{has}
 use Rattle.flow_cuts.specs.declared.network.Cap.{Cap}
 use Rattle.flow_cuts.specs.Network.{across, capacity, Separates}
-use Rattle.flow_cuts.specs.Cuts.{IsLeastCut}
 use Rattle.flow_cuts.specs.Residual.{from_of, to_of, room_of, moved, link_at, no_link, from_at, to_at, room_at, pushed, room_out, room_leaving, AreLinksOf, IsFlow}
-
 
 -- an amount that stands at a node outside of the side
 abbrev pub at_outside : Bool → ℕ → ℕ

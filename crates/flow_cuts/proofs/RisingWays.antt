@@ -1,15 +1,15 @@
 -- Ways by growing levels, and a mark that changes at the end of one.
-use Rattle.std.proofs.Common.{◌≡◌, ◌≢◌, ◌∙◌, ℕ, suc, zero, ◌+◌, ◌-◌, ◌*◌, ◌<◌, ◌≤◌, List, [], ◌∷◌, length, get_or, Bool, true, false, cond, refl, sym, ap, subst, arith, inl, inr}
-use Rattle.std.specs.Prelude.{slice_index_or, slice_set, ◌⊎◌, min, count_by}
+use Rattle.std.proofs.Common.{◌≡◌, ◌∙◌, ℕ, suc, zero, ◌+◌, ◌<◌, ◌≤◌, List, length, Bool, true, cond, refl, sym, ap, subst, arith, inl, inr}
+use Rattle.std.specs.Prelude.{slice_set, min, count_by}
 use Rattle.std.proofs.Math.ListN.{length-set}
 use Rattle.std.proofs.lemmas.List.Sums.{sum_by-set}
 use Rattle.flow_cuts.specs.declared.network.Link.{Link}
 use Rattle.flow_cuts.specs.declared.network.Step.{Step}
 use Rattle.flow_cuts.specs.declared.search.Mark.{Mark}
-use Rattle.flow_cuts.specs.Residual.{link_at, from_at, to_at, room_at, SameEnds}
+use Rattle.flow_cuts.specs.Residual.{from_at, to_at, room_at}
 use Rattle.graph_core.specs.Side.{has}
-use Rattle.flow_cuts.specs.Search.{unseen, no_mark, mark_at, is_seen, IsOpenWay, IsNarrowWay, IsLevelled, IsLedTo, IsSearchForest, IsSearched, IsFilled}
-use Rattle.flow_cuts.proofs.SearchTrees.{eq_or_not, seen_below, set_at, set_off, as_one, is_seen-of, is_seen-not}
+use Rattle.flow_cuts.specs.Search.{unseen, no_mark, mark_at, is_seen, IsOpenWay, IsNarrowWay, IsLevelled, IsLedTo, IsSearched}
+use Rattle.flow_cuts.proofs.SearchTrees.{eq_or_not, set_at, set_off, as_one, is_seen-of, is_seen-not}
 
 narrow_level : (ls : List Link) (inside : List Bool) (ms : List Mark) (k v : ℕ) → IsNarrowWay ls inside ms k v → (mark_at ms v).level ≡ k
 narrow_level ls inside ms zero v way = way.0

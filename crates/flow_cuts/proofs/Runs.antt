@@ -1,5 +1,5 @@
 -- What a run leaves says of the flow as it is seen.
-use Rattle.std.proofs.Common.{◌≡◌, ◌∙◌, ℕ, ◌<◌, ◌≤◌, List, length, Bool, Option, Some, None, refl, sym, ap, subst, arith}
+use Rattle.std.proofs.Common.{◌≡◌, ◌∙◌, ℕ, ◌<◌, List, Bool, Option, Some, None, refl, sym, ap, subst, arith}
 use Rattle.std.specs.Prelude.{map}
 use Rattle.std.specs.Option.{option_map}
 use Rattle.flow_cuts.specs.declared.network.Cap.{Cap}
@@ -12,7 +12,7 @@ use Rattle.flow_cuts.specs.Cuts.{IsLeastCapacity, IsSmallestCut, IsLargestCut}
 use Rattle.flow_cuts.specs.Flow.{Origin, Run, FlowValue, FellShort}
 use Rattle.flow_cuts.specs.Residual.{link_along}
 use Rattle.flow_cuts.specs.Ready.{HasRun}
-use Rattle.flow_cuts.specs.Sound.{origin_of, arcs_seen, IsWholeOf, last_of, value_of, IsSound}
+use Rattle.flow_cuts.specs.Sound.{origin_of, IsWholeOf, last_of, value_of, IsSound}
 use Rattle.flow_cuts.proofs.ClosedSides.{value_bound}
 
 pub IsLeastCapacity-run : (n : ℕ) (inside outside : List Bool) (arcs : List Cap) (stop answer : ℕ) (r : Residual) → HasRun n inside outside arcs stop answer r →

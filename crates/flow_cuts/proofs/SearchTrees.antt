@@ -1,14 +1,14 @@
 -- One node more in a tree.
-use Rattle.std.proofs.Common.{◌≡◌, ◌≢◌, ◌∙◌, ℕ, suc, zero, ◌+◌, ◌-◌, ◌*◌, ◌<◌, ◌≤◌, List, [], ◌∷◌, length, get_or, Bool, true, false, cond, refl, sym, ap, subst, arith, inl, inr, get_or-set_other, get_or-set_same}
-use Rattle.std.specs.Prelude.{slice_index_or, slice_index, slice_set, count_by, nat_lt, ◌⊎◌, min}
+use Rattle.std.proofs.Common.{◌≡◌, ◌≢◌, ◌∙◌, ℕ, suc, zero, ◌+◌, ◌<◌, ◌≤◌, List, [], ◌∷◌, length, get_or, Bool, true, false, cond, refl, sym, ap, subst, arith, inl, inr, get_or-set_other, get_or-set_same}
+use Rattle.std.specs.Prelude.{slice_index_or, slice_index, slice_set, count_by, ◌⊎◌, min}
 use Rattle.std.proofs.Math.ListN.{set, length-set}
 use Rattle.std.proofs.lemmas.Grind.{common_steps, elements}
-use Rattle.std.proofs.lemmas.List.Sums.{sum_by-set, get_or-le-sum_by, sum_by-cons, count_by-le-length}
+use Rattle.std.proofs.lemmas.List.Sums.{sum_by-set, count_by-le-length}
 use Rattle.std.proofs.lemmas.Bool.Decides.{nat_tests}
 use Rattle.flow_cuts.specs.declared.network.Link.{Link}
 use Rattle.flow_cuts.specs.declared.network.Step.{Step}
 use Rattle.flow_cuts.specs.declared.search.Mark.{Mark}
-use Rattle.flow_cuts.specs.Residual.{from_of, to_of, room_of, moved, link_at, no_link, from_at, to_at, room_at, pushed}
+use Rattle.flow_cuts.specs.Residual.{from_at, to_at, room_at}
 use Rattle.graph_core.specs.Side.{has}
 use Rattle.flow_cuts.proofs.ClosedSides.{sum_by_zeros}
 use Rattle.flow_cuts.specs.Search.{unseen, no_mark, mark_at, row_at, is_seen, IsReached, IsFilled, IsSearchForest, IsAdjacency, Grows, IsClosedTree, IsLookedAt, IsDone, IsRow}

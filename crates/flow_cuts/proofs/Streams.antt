@@ -1,6 +1,6 @@
 -- What is sent is a stream, and a unit taken along a way room_out a stream of one less.
-use Rattle.std.proofs.Common.{◌≡◌, ◌≢◌, ◌∙◌, ℕ, suc, zero, ◌+◌, ◌-◌, ◌*◌, ◌<◌, ◌≤◌, List, [], ◌∷◌, length, get_or, Bool, true, false, cond, refl, sym, ap, subst, arith, inl, inr}
-use Rattle.std.specs.Prelude.{sum_by, slice_index_or, slice_set, ◌⊎◌}
+use Rattle.std.proofs.Common.{◌≡◌, ◌≢◌, ◌∙◌, ℕ, suc, ◌+◌, ◌-◌, ◌<◌, ◌≤◌, List, [], ◌∷◌, length, Bool, true, false, refl, sym, ap, arith, inl, inr}
+use Rattle.std.specs.Prelude.{sum_by, ◌⊎◌}
 use Rattle.std.proofs.Math.ListN.{length-set}
 use Rattle.std.proofs.lemmas.List.Sums.{sum_by-set, sum_by-cons}
 use Rattle.flow_cuts.specs.declared.network.Link.{Link}
@@ -10,9 +10,8 @@ use Rattle.flow_cuts.specs.declared.network.Way.TheVariants.{Forth, Back}
 use Rattle.flow_cuts.specs.Residual.{from_of, to_of, room_of, link_at, no_link, from_at, to_at, room_at, room_out, room_leaving, SameEnds, SameSums, AreLinksOf, IsFlow}
 use Rattle.graph_core.specs.Side.{has}
 use Rattle.flow_cuts.specs.declared.network.Cap.{Cap}
-use Rattle.flow_cuts.specs.Network.{across, capacity, Separates}
+use Rattle.flow_cuts.specs.Network.{across, Separates}
 use Rattle.flow_cuts.specs.Streams.{one_less, taken, both_at, sent_of, IsSent, enters, entering, IsStream, IsLess}
-use Rattle.flow_cuts.specs.Search.{mark_at, IsOpenWay}
 use Rattle.flow_cuts.proofs.Pushes.{at_outside}
 use Rattle.flow_cuts.proofs.ClosedSides.{IsClosedSide, leaving_closed}
 use Rattle.flow_cuts.proofs.SearchTrees.{eq_or_not}

@@ -1,10 +1,10 @@
 -- A walk that is taken out of what is sent, and walks in which no link stands twice.
-use Rattle.std.proofs.Common.{◌≡◌, ◌≢◌, ◌∙◌, ℕ, suc, zero, ◌+◌, ◌-◌, ◌*◌, ◌<◌, ◌≤◌, List, [], ◌∷◌, ◌++◌, length, reverse, get_or, Bool, true, false, cond, refl, sym, ap, subst, arith, inl, inr}
-use Rattle.std.specs.Prelude.{sum_by, count_by, ◌==◌, slice_index_or, ◌⊎◌, map, All}
+use Rattle.std.proofs.Common.{◌≡◌, ◌≢◌, ◌∙◌, ℕ, suc, zero, ◌+◌, ◌-◌, ◌<◌, ◌≤◌, List, [], ◌∷◌, ◌++◌, length, reverse, Bool, true, false, cond, refl, sym, ap, subst, arith, inl, inr}
+use Rattle.std.specs.Prelude.{sum_by, ◌==◌, slice_index_or, map, All}
 use Rattle.std.proofs.lemmas.List.{reverse-append}
 use Rattle.std.proofs.lemmas.List.Sums.{sum_by-append, sum_by-cons}
 use Rattle.std.proofs.lemmas.List.Elements.{All-append}
-use Rattle.std.proofs.lemmas.Grind.{common_steps, elements}
+use Rattle.std.proofs.lemmas.Grind.{common_steps}
 use Rattle.flow_cuts.specs.declared.network.Link.{Link}
 use Rattle.flow_cuts.specs.declared.network.Step.{Step}
 use Rattle.flow_cuts.specs.declared.network.Way.{Way}
@@ -12,7 +12,6 @@ use Rattle.flow_cuts.specs.declared.network.Way.TheVariants.{Forth, Back}
 use Rattle.flow_cuts.specs.declared.search.Mark.{Mark}
 use Rattle.flow_cuts.specs.Residual.{from_of, to_of, room_of, link_at, from_at, to_at, room_at, SameEnds, SameSums}
 use Rattle.graph_core.specs.Side.{has}
-use Rattle.flow_cuts.specs.Network.{Separates}
 use Rattle.flow_cuts.specs.Search.{mark_at, IsOpenWay}
 use Rattle.flow_cuts.specs.Streams.{taken, both_at, sent_of, IsSent, IsStream, IsLess}
 use Rattle.graph_core.specs.Picked.{occurrences}
@@ -21,8 +20,8 @@ use Rattle.flow_cuts.specs.LinkWalks.{Joins, IsLinkWalk, AreLinkWalks, AreUnits}
 use Rattle.flow_cuts.specs.Search.{IsSearched, IsMissed, is_seen}
 use Rattle.flow_cuts.proofs.ExtremeSides.{Separates-reached, IsClosedSide-reached, IsReachedSet-map}
 use Rattle.flow_cuts.proofs.SearchTrees.{eq_or_not}
-use Rattle.flow_cuts.proofs.OpenWays.{HasLastStep, has_last_step, IsOpenWay-kept, SameEnds-trans, SameEnds-refl}
-use Rattle.flow_cuts.proofs.Streams.{SameEnds-taken, IsLess-taken, IsLess-refl, IsLess-trans, both_at-here, both_at-off, room_at-kept, IsTakenFrom, IsTakenFrom-start, IsTakenFrom-step, IsStream-arrived, nothing_sent, ends_of}
+use Rattle.flow_cuts.proofs.OpenWays.{HasLastStep, IsOpenWay-kept, SameEnds-trans, SameEnds-refl}
+use Rattle.flow_cuts.proofs.Streams.{SameEnds-taken, IsLess-taken, IsLess-refl, IsLess-trans, both_at-here, both_at-off, room_at-kept, IsTakenFrom, IsTakenFrom-start, IsTakenFrom-step, nothing_sent}
 
 -- from v on the walk to the end is taken, and the list has its links, the last one first
 pub record IsTaking (inside : List Bool) (ms : List Mark) (end : ℕ) (old new : List Link) (v : ℕ) (back : List ℕ) : Type 0 where

@@ -1,5 +1,5 @@
 -- Residual networks: links, what may still go along them, and what a push changes.
-use Rattle.std.specs.Prelude.{◌≡◌, ℕ, ◌+◌, ◌-◌, ◌^◌, ◌<◌, ◌≤◌, List, length, map, slice_index_or, slice_set, Bool, true, false, cond, sum_by}
+use Rattle.std.specs.Prelude.{◌≡◌, ℕ, ◌+◌, ◌-◌, ◌^◌, ◌<◌, List, length, slice_index_or, slice_set, Bool, sum_by}
 use Rattle.graph_core.specs.Side.{has}
 use Rattle.graph_core.specs.declared.graph.Kind.{Kind}
 use Rattle.graph_core.specs.declared.graph.Kind.TheVariants.{Undirected, Directed}

@@ -1,9 +1,8 @@
 -- What a search in a residual network has found.
-use Rattle.std.specs.Prelude.{◌≡◌, ℕ, zero, suc, ◌+◌, ◌<◌, ◌≤◌, List, [], length, slice_index, slice_index_or, slice_set, Bool, true, nat_lt, count_by}
+use Rattle.std.specs.Prelude.{◌≡◌, ℕ, zero, suc, ◌+◌, ◌<◌, ◌≤◌, List, [], length, slice_index, slice_index_or, Bool, true, nat_lt, count_by}
 use Rattle.flow_cuts.specs.declared.network.Link.{Link}
 use Rattle.flow_cuts.specs.declared.network.Step.{Step}
-use Rattle.flow_cuts.specs.declared.network.Way.{Way}
-use Rattle.flow_cuts.specs.declared.network.Way.TheVariants.{Forth, Back}
+use Rattle.flow_cuts.specs.declared.network.Way.TheVariants.{Forth}
 use Rattle.flow_cuts.specs.declared.search.Mark.{Mark}
 use Rattle.flow_cuts.specs.Residual.{from_at, to_at, room_at}
 use Rattle.graph_core.specs.Side.{has}

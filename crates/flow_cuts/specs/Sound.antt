@@ -1,5 +1,5 @@
 -- What holds of the fields of a flow, and what a caller sees of them.
-use Rattle.std.specs.Prelude.{◌≡◌, ℕ, List, map, length, Option, Some, None}
+use Rattle.std.specs.Prelude.{◌≡◌, List, map, length, Option, Some, None}
 use Rattle.std.specs.Option.{option_map}
 use Rattle.flow_cuts.specs.Flow.{Origin, Run, FlowValue}
 use Rattle.flow_cuts.specs.GraphArcs.{arcs_of}

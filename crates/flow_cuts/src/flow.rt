@@ -80,7 +80,12 @@ fn links_along(alloc: Global, kind: Kind, lines: &[Line]) -> Result<Vec<Link>, N
 
 impl Flow {
     /// A flow over links, before its first run.
-    fn over(alloc: Global, n: usize, whole: Vec<Link>, graph: Option<Source>) -> Result<Flow, NoMemory>
+    fn over(
+        alloc: Global,
+        n: usize,
+        whole: Vec<Link>,
+        graph: Option<Source>,
+    ) -> Result<Flow, NoMemory>
         requires nodes { n ≤ 8192 }
         requires few { vec_len whole < 2 ^ 31 }
         requires fits { EachFits whole.items }
@@ -126,7 +131,12 @@ impl Flow {
         let kind = graph.kind();
         let whole = links_along(alloc, kind, graph.lines())?;
         let lines = Vec::from_slice(alloc, graph.lines())?;
-        Flow::over(alloc, graph.node_count(), whole, Some(Source { kind, lines }))
+        Flow::over(
+            alloc,
+            graph.node_count(),
+            whole,
+            Some(Source { kind, lines }),
+        )
     }
 
     /// The smaller of `stop` and the least capacity that leaves a side which holds the inside and misses the outside.

@@ -140,14 +140,7 @@ fn drain_all(
     let mut sent = 0;
     for root in 0..course.inside.len() as u32 {
         if marks[root as usize].level == 0 {
-            sent += drain(
-                course,
-                root,
-                stop.saturating_sub(sent),
-                links,
-                marks,
-                next,
-            );
+            sent += drain(course, root, stop.saturating_sub(sent), links, marks, next);
         }
     }
     sent

@@ -2,6 +2,7 @@
 #![tactic(auto)]
 
 mod adjacency;
+mod certified;
 mod course;
 mod flow;
 mod levels;
@@ -11,5 +12,6 @@ mod search;
 mod sides;
 mod walks;
 
+pub use certified::most_walks;
 pub use flow::Flow;
 pub use network::Cap;

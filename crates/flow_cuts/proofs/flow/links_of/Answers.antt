@@ -1,6 +1,6 @@
-use Rattle.std.proofs.Common.{◌≡◌, arith}
+use Rattle.std.proofs.Common.{arith}
 use Rattle.std.proofs.lemmas.Grind.{common_steps}
-use Rattle.flow_cuts.proofs.LinkLaws.{EachFits-push, EachFits-none}
+use Rattle.flow_cuts.proofs.LinkLaws.{EachFits-push}
 use Rattle.flow_cuts.proofs.flow.links_of.Goals as goal
 
 pub loop-arc-preserved : goal.loop-arc-preserved

@@ -1,10 +1,8 @@
-use Rattle.std.proofs.Common.{◌≡◌, ◌+◌, ◌-◌, ◌<◌, ◌≤◌, ℕ, List, Bool, get_or, length, arith, ap, sym, ◌∙◌, subst, refl}
-use Rattle.std.specs.Prelude.{min, slice_index}
+use Rattle.std.proofs.Common.{◌≡◌, ◌<◌, ℕ, List, length, arith, ap, sym, ◌∙◌, subst, refl}
 use Rattle.flow_cuts.specs.declared.network.Step.{Step}
 use Rattle.flow_cuts.specs.declared.search.Mark.{Mark}
-use Rattle.flow_cuts.specs.Residual.{from_at, to_at, room_at}
-use Rattle.flow_cuts.specs.Search.{mark_at, no_mark, no_step, row_at, IsNarrowWay}
-use Rattle.flow_cuts.proofs.SearchTrees.{any_default, set_at, set_off}
+use Rattle.flow_cuts.specs.Search.{mark_at, no_mark, no_step}
+use Rattle.flow_cuts.proofs.SearchTrees.{any_default, set_off}
 use Rattle.flow_cuts.proofs.OpenWays.{via_at, via_is}
 use Rattle.flow_cuts.proofs.RisingWays.{IsOpenWay-narrow, narrow_some, comes_from_step, IsDraining, IsDraining-back}
 use Rattle.flow_cuts.proofs.levels.drain.Goals as goal

@@ -1,10 +1,10 @@
-use Rattle.std.proofs.Common.{◌≡◌, ◌+◌, ◌-◌, ◌<◌, ℕ, List, Bool, get_or, length, arith, ap, sym, ◌∙◌, subst, refl}
+use Rattle.std.proofs.Common.{◌≡◌, ◌+◌, ◌<◌, ℕ, List, get_or, length, arith, ap, sym, ◌∙◌, refl}
 use Rattle.std.specs.Prelude.{min, slice_index}
 use Rattle.flow_cuts.specs.declared.network.Step.{Step}
 use Rattle.flow_cuts.specs.declared.search.Mark.{Mark}
-use Rattle.flow_cuts.specs.Residual.{from_at, to_at, room_at}
-use Rattle.flow_cuts.specs.Search.{mark_at, no_mark, no_step, row_at, IsNarrowWay}
-use Rattle.flow_cuts.proofs.SearchTrees.{any_default, read_mark}
+use Rattle.flow_cuts.specs.Residual.{room_at}
+use Rattle.flow_cuts.specs.Search.{mark_at, no_mark, no_step, row_at}
+use Rattle.flow_cuts.proofs.SearchTrees.{any_default}
 use Rattle.flow_cuts.proofs.RisingWays.{IsNarrowWay-on}
 use Rattle.flow_cuts.proofs.levels.lead_on.Goals as goal
 

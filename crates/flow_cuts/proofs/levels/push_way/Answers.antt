@@ -1,14 +1,9 @@
-use Rattle.std.proofs.Common.{◌≡◌, ◌+◌, ◌<◌, ℕ, length, arith, ap, sym, ◌∙◌, refl, true, false, subst, List, Bool, get_or}
-use Rattle.flow_cuts.specs.Search.{unseen, mark_at, no_step, IsOpenWay}
-use Rattle.graph_core.specs.Side.{has}
-use Rattle.flow_cuts.specs.declared.network.Link.{Link}
+use Rattle.std.proofs.Common.{◌≡◌, length, arith, ap, sym, ◌∙◌}
+use Rattle.flow_cuts.specs.Search.{mark_at}
 use Rattle.flow_cuts.specs.declared.network.Step.{Step}
-use Rattle.flow_cuts.specs.declared.search.Mark.{Mark}
-use Rattle.flow_cuts.specs.Residual.{from_at, to_at, room_at, pushed}
-use Rattle.flow_cuts.proofs.SearchTrees.{any_default}
+use Rattle.flow_cuts.specs.Residual.{from_at, to_at}
 use Rattle.flow_cuts.proofs.Pushes.{IsUnderWay, IsUnderWay-pushed}
-use Rattle.flow_cuts.proofs.OpenWays.{via_at, via_is, HasLastStep, has_last_step, IsOpenWay-rest, SameEnds-pushed, SameEnds-trans, EachFits-pushed, SameSums-pushed, SameSums-trans}
-use Rattle.flow_cuts.specs.declared.search.Mark.{Mark}
+use Rattle.flow_cuts.proofs.OpenWays.{via_at, via_is, has_last_step, IsOpenWay-rest, SameEnds-pushed, SameEnds-trans, EachFits-pushed, SameSums-pushed, SameSums-trans}
 use Rattle.flow_cuts.proofs.levels.push_way.Goals as goal
 
 pub loop-v-smaller : goal.loop-v-smaller

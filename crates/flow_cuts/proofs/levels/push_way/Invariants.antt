@@ -1,7 +1,6 @@
-use Rattle.std.proofs.Common.{◌≡◌, ◌<◌, ◌+◌, ℕ, List, Bool, true, length}
+use Rattle.std.proofs.Common.{◌<◌, ℕ, List, Bool, length}
 use Rattle.flow_cuts.specs.declared.network.Cap.{Cap}
 use Rattle.flow_cuts.specs.Residual.{EachFits, SameEnds, SameSums}
-use Rattle.graph_core.specs.Side.{has}
 use Rattle.flow_cuts.specs.Residual.{IsFlow}
 use Rattle.flow_cuts.specs.Search.{mark_at, IsOpenWay}
 use Rattle.flow_cuts.proofs.Pushes.{IsUnderWay}

@@ -1,10 +1,9 @@
-use Rattle.std.proofs.Common.{◌≡◌, ◌+◌, ◌<◌, ◌≤◌, ℕ, length, arith, ap, sym, ◌∙◌, refl, true, false, subst, List, Bool, get_or}
+use Rattle.std.proofs.Common.{◌≡◌, ◌<◌, ℕ, length, arith, ap, ◌∙◌, refl, subst}
 use Rattle.flow_cuts.specs.Residual.{IsFlow}
-use Rattle.flow_cuts.specs.Search.{unseen, mark_at, IsOpenWay}
+use Rattle.flow_cuts.specs.Search.{unseen, mark_at}
 use Rattle.flow_cuts.proofs.SearchTrees.{read_mark, seen_below}
 use Rattle.flow_cuts.proofs.OpenWays.{IsAdjacency-same, IsOpenWay-found, SameEnds-trans, SameSums-trans}
 use Rattle.flow_cuts.proofs.RisingWays.{IsLevelled-searched}
-use Rattle.std.specs.Vec.{with_items}
 use Rattle.std.proofs.lemmas.List.{with_items_is}
 use Rattle.flow_cuts.proofs.levels.send_by_levels.Goals as goal
 

@@ -1,8 +1,4 @@
-use Rattle.std.proofs.Common.{◌≡◌, ℕ, List, Bool, ap, sym, ◌∙◌, refl, length, arith}
-use Rattle.std.specs.Prelude.{map}
-use Rattle.flow_cuts.specs.Residual.{mirrored}
-use Rattle.flow_cuts.specs.Search.{IsSearched}
-use Rattle.flow_cuts.proofs.ExtremeSides.{reached_set, IsMissedSet, IsSmallestCut-reached, IsLargestCut-missed}
+use Rattle.flow_cuts.proofs.ExtremeSides.{reached_set, IsSmallestCut-reached, IsLargestCut-missed}
 use Rattle.flow_cuts.proofs.residual.find_sides.Goals as goal
 
 pub returns-clause-smallest : goal.returns-clause-smallest

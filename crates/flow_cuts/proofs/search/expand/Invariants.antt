@@ -1,4 +1,4 @@
-use Rattle.std.proofs.Common.{◌≡◌, ℕ, List, Bool, length}
+use Rattle.std.proofs.Common.{List, Bool, length}
 use Rattle.flow_cuts.specs.Search.{IsFilled, Grows, IsSearchForest, IsLookedAt}
 use Rattle.flow_cuts.proofs.search.expand.Given as goal
 

@@ -1,8 +1,7 @@
-use Rattle.std.proofs.Common.{◌≡◌, ◌+◌, ◌<◌, ℕ, length, arith, ap, sym, ◌∙◌, refl}
+use Rattle.std.proofs.Common.{◌≡◌, ◌+◌, ◌<◌, length, arith, ap, sym, ◌∙◌, refl}
 use Rattle.std.specs.Prelude.{min}
 use Rattle.flow_cuts.specs.Search.{unseen, mark_at}
-use Rattle.flow_cuts.specs.Residual.{from_at, to_at, room_at}
-use Rattle.flow_cuts.specs.declared.search.Mark.{Mark}
+use Rattle.flow_cuts.specs.Residual.{from_at, room_at}
 use Rattle.flow_cuts.proofs.SearchTrees.{place_left, IsFilled-add, IsSearchForest-step, read_mark, seen_below}
 use Rattle.flow_cuts.proofs.search.look.Goals as goal
 

@@ -1,5 +1,4 @@
-use Rattle.std.proofs.Common.{◌≡◌, ◌+◌, ◌<◌, ℕ, length, arith, ap, sym, ◌∙◌, refl, true, false}
-use Rattle.flow_cuts.specs.Search.{unseen, mark_at}
+use Rattle.std.proofs.Common.{◌≡◌, ◌<◌, length, arith, ap, sym, ◌∙◌, refl, true, false}
 use Rattle.graph_core.specs.Side.{has}
 use Rattle.flow_cuts.proofs.SearchTrees.{place_left, IsPlanted-none, IsPlanted-root, IsPlanted-skip}
 use Rattle.flow_cuts.proofs.search.plant.Goals as goal

@@ -1,6 +1,5 @@
-use Rattle.std.proofs.Common.{◌≡◌, ◌+◌, ◌<◌, ℕ, length, arith, ap, sym, ◌∙◌, refl}
+use Rattle.std.proofs.Common.{◌≡◌, length, arith}
 use Rattle.std.specs.Prelude.{slice_index}
-use Rattle.flow_cuts.specs.Search.{unseen, mark_at, IsRow, IsLookedAt, row_at}
 use Rattle.flow_cuts.proofs.SearchTrees.{IsRow-of, IsDone-more, IsClosedTree-done, seen_below, place_in, count_le}
 use Rattle.flow_cuts.proofs.search.search.Goals as goal
 

@@ -1,4 +1,4 @@
-use Rattle.std.proofs.Common.{◌≡◌, ◌<◌, ◌≤◌, ◌-◌, ℕ, List, Bool, true, length}
+use Rattle.std.proofs.Common.{◌≡◌, ◌<◌, ◌≤◌, ◌-◌, ℕ, true, length}
 use Rattle.graph_core.specs.Side.{has}
 use Rattle.flow_cuts.specs.Search.{IsFilled, IsSearchForest, IsDone, mark_at, unseen}
 use Rattle.flow_cuts.proofs.search.search.Given as goal

@@ -1,4 +1,4 @@
-use Rattle.std.proofs.Common.{◌≡◌, ◌<◌, ℕ, length, take}
+use Rattle.std.proofs.Common.{◌≡◌, take}
 use Rattle.std.specs.Prelude.{map}
 use Rattle.flow_cuts.specs.Residual.{mirrored}
 use Rattle.flow_cuts.proofs.sides.reflect.Given as goal

@@ -1,7 +1,5 @@
-use Rattle.std.proofs.Common.{◌≡◌, ◌+◌, ◌-◌, ◌<◌, ℕ, List, length, arith, ap, sym, ◌∙◌, subst, refl}
+use Rattle.std.proofs.Common.{◌≡◌, ◌+◌, ◌-◌, ◌<◌, ℕ, length, arith, subst, refl}
 use Rattle.flow_cuts.specs.Search.{mark_at, unseen}
-use Rattle.flow_cuts.specs.Streams.{IsStream}
-use Rattle.flow_cuts.proofs.SearchTrees.{seen_below}
 use Rattle.flow_cuts.proofs.OpenWays.{IsAdjacency-same, IsOpenWay-found}
 use Rattle.flow_cuts.proofs.TakenWalks.{IsSplit, IsSplit-more, none_left, AreLinkWalks-split}
 use Rattle.flow_cuts.proofs.walks.split_walks.Goals as goal

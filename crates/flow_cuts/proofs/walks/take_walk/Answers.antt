@@ -1,4 +1,4 @@
-use Rattle.std.proofs.Common.{◌≡◌, ◌+◌, ◌<◌, ℕ, List, length, reverse, arith, ap, sym, ◌∙◌}
+use Rattle.std.proofs.Common.{◌≡◌, arith, ap, sym, ◌∙◌}
 use Rattle.flow_cuts.specs.Search.{mark_at}
 use Rattle.graph_core.specs.Picked.{occurrences}
 use Rattle.flow_cuts.specs.declared.network.Step.{Step}

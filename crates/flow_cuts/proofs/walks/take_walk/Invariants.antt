@@ -1,4 +1,3 @@
-use Rattle.std.proofs.Common.{length}
 use Rattle.flow_cuts.proofs.TakenWalks.{IsTaking}
 use Rattle.flow_cuts.specs.Search.{mark_at}
 use Rattle.flow_cuts.proofs.walks.take_walk.Given as goal

@@ -1,4 +1,4 @@
-use Rattle.std.proofs.Common.{◌≡◌, ◌∙◌, List, ap, sym, subst}
+use Rattle.std.proofs.Common.{◌∙◌, List, ap, sym, subst}
 use Rattle.std.specs.Prelude.{map}
 use Rattle.flow_cuts.specs.declared.network.Cap.{Cap}
 use Rattle.flow_cuts.specs.declared.network.Link.{Link}

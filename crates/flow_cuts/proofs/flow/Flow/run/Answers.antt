@@ -1,4 +1,4 @@
-use Rattle.std.proofs.Common.{◌≡◌, ◌∙◌, ap, sym, subst}
+use Rattle.std.proofs.Common.{ap}
 use Rattle.flow_cuts.proofs.Runs.{IsLeastCapacity-run}
 use Rattle.flow_cuts.proofs.flow.Flow.run.Goals as goal
 

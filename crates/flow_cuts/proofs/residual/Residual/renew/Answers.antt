@@ -1,4 +1,4 @@
-use Rattle.std.proofs.Common.{◌≡◌, ◌+◌, ◌<◌, ℕ, List, Bool, ap, sym, ◌∙◌, refl, length, arith, subst, zero-add, Vec, Global}
+use Rattle.std.proofs.Common.{◌≡◌, ◌+◌, ℕ, List, Bool, ap, sym, ◌∙◌, length, arith, subst, zero-add, Vec, Global}
 use Rattle.std.specs.Vec.{with_items}
 use Rattle.std.proofs.lemmas.List.{with_items_is}
 use Rattle.flow_cuts.specs.declared.network.Link.{Link}
