@@ -1,5 +1,5 @@
 -- Commands, and the slots behind their first words.
-use Rattle.std.proofs.Common.{◌≡◌, ℕ, ◌^◌, ◌-◌, ◌<◌, ◌≤◌, List, [], ◌∷◌, Option, Some, None, refl, sym, ◌∙◌, ap, subst, arith}
+use Rattle.std.proofs.Common.{◌≡◌, ℕ, ◌^◌, ◌-◌, ◌<◌, ◌≤◌, List, [], ◌∷◌, Some, refl, sym, ◌∙◌, ap, subst, arith}
 use Rattle.std.specs.Fmt.{decimal}
 use Rattle.problem_defs.specs.Ask.{IsK}
 use Rattle.connect_words.specs.declared.command.Command.{Command}
@@ -9,8 +9,8 @@ use Rattle.connect_words.specs.declared.slot.Verb.{Verb}
 use Rattle.connect_words.specs.declared.slot.Verb.TheVariants as verb
 use Rattle.connect_words.specs.declared.slot.Slot.{Slot}
 use Rattle.connect_words.specs.declared.slot.Slot.TheVariants.{Name, Kind, K, Nodes, Number}
-use Rattle.connect_words.specs.Commands.{Place, word, name, Stands, Fill, Writes, IsWithinLimits, IsNodes, IsNumber, kind_word, places}
-use Rattle.connect_words.specs.Slots.{Suits, SuitAll, slots, verb_word, verb_of, Reads, ReadsNumber}
+use Rattle.connect_words.specs.Commands.{Place, word, name, Stands, Fill, Writes, IsNodes, IsNumber, kind_word, places}
+use Rattle.connect_words.specs.Slots.{Suits, SuitAll, slots, verb_word, verb_of, Reads}
 
 -- what stands at a place suits the slot
 abbrev Covers : List Slot → List Place → Type 0
@@ -42,7 +42,7 @@ one_number k ws limits = suit_all (K ∷ []) (word (decimal k) ∷ []) ws ((λ g
 of_trial : (kind : TrialKind) (nodes number : ℕ) (ws : List (List ℕ)) → IsNodes nodes × IsNumber number → Fill (word (kind_word kind) ∷ word (decimal nodes) ∷ word (decimal number) ∷ []) ws → SuitAll (Kind ∷ Nodes ∷ Number ∷ []) ws
 of_trial kind nodes number ws limits =
     suit_all (Kind ∷ Nodes ∷ Number ∷ []) (word (kind_word kind) ∷ word (decimal nodes) ∷ word (decimal number) ∷ []) ws
-      ((λ given h. (kind, h)), ((λ given h. (nodes, limits.0, h)), ((λ given h. (number, limits.1, h)), tt)))
+    ((λ given h. (kind, h)), ((λ given h. (nodes, limits.0, h)), ((λ given h. (number, limits.1, h)), tt)))
 
 -- the words of a command: its first word, and words that suit the slots
 pub writes_slots : (command : Command) (w : List ℕ) (ws : List (List ℕ)) → Writes command (w ∷ ws) → (w ≡ verb_word (verb_of command)) × SuitAll (slots (verb_of command)) ws

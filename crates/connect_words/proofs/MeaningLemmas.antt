@@ -1,8 +1,9 @@
 -- Words have one meaning.
-use Rattle.std.proofs.Common.{◌≡◌, ℕ, zero, suc, ◌-◌, ◌^◌, ◌<◌, ◌≤◌, ◌⊎◌, List, [], ◌∷◌, refl, sym, ◌∙◌, ap, subst, arith, inl, inr}
+use Rattle.std.proofs.Common.{◌≡◌, ℕ, ◌-◌, ◌^◌, ◌<◌, ◌≤◌, List, [], ◌∷◌, refl, sym, ◌∙◌, ap, arith, inl, inr}
 use Rattle.std.specs.Fmt.{decimal}
 use Rattle.std.specs.Str.Parse.{digits_value}
 use Rattle.std.proofs.lemmas.Fmt.{digits_value-decimal}
+use Rattle.std.proofs.lemmas.Bool.{cases_lt}
 use Rattle.problem_defs.specs.Ask.{IsK}
 use Rattle.connect_words.specs.declared.command.Command.{Command}
 use Rattle.connect_words.specs.declared.command.Command.TheVariants.{Flow, CutTree, Augment, AugmentArcs, Arborescences, Trees, Forests, Orient, Dijoin, Check, Trial}
@@ -11,7 +12,7 @@ use Rattle.connect_words.specs.declared.slot.Verb.{Verb}
 use Rattle.connect_words.specs.declared.slot.Verb.TheVariants as verb
 use Rattle.connect_words.specs.Commands.{Fill, word, Writes, kind_word, IsNodes, IsNumber}
 use Rattle.connect_words.specs.Places.{IsFirstBadPlace}
-use Rattle.connect_words.specs.Slots.{verb_word, verb_of}
+use Rattle.connect_words.specs.Slots.{verb_of}
 use Rattle.connect_words.proofs.NumberLemmas.{own}
 use Rattle.connect_words.proofs.CommandLemmas.{writes_slots}
 use Rattle.connect_words.proofs.PlaceLemmas.{writes_some}
@@ -80,11 +81,9 @@ one_command (w ∷ ws) one other h g =
 pub not_both : (words : List (List ℕ)) (command : Command) (place : ℕ) → Writes command words → IsFirstBadPlace words place → ⊥
 not_both words command place h bad = bad.bad (command, words, h, λ at below. refl)
 
-ordered : (m n : ℕ) → (m < n) ⊎ ((n < m) ⊎ (m ≡ n))
-ordered zero zero = inr (inr refl)
-ordered zero (suc n) = inl (omega arith)
-ordered (suc m) zero = inr (inl (omega arith))
-ordered (suc m) (suc n) = elim (ordered m n) [ inl below ↦ inl (omega (arith, below)) | inr more ↦ elim more [ inl above ↦ inr (inl (omega (arith, above))) | inr same ↦ inr (inr (ap suc same)) ] ]
-
 pub one_place : (words : List (List ℕ)) (one other : ℕ) → IsFirstBadPlace words one → IsFirstBadPlace words other → one ≡ other
-one_place words one other h g = elim (ordered one other) [ inl below ↦ absurd (h.bad (g.first one below)) | inr more ↦ elim more [ inl above ↦ absurd (g.bad (h.first other above)) | inr same ↦ same ] ]
+one_place words one other h g =
+    elim (cases_lt one other) [
+      | inl below ↦ absurd (h.bad (g.first one below))
+      | inr over ↦ elim (cases_lt other one) [ inl below ↦ absurd (g.bad (h.first other below)) | inr under ↦ omega (arith, over, under) ]
+    ]

@@ -1,12 +1,12 @@
 -- Decimals, and what is read as a number.
-use Rattle.std.proofs.Common.{◌≡◌, ◌≢◌, ◌↔◌, Bool, IsTrue, Option, Some, None, IfSome, IfNone, unwrap_or, ℕ, zero, suc, ◌^◌, ◌<◌, ◌≤◌, List, length, get_or, Result, Ok, Err, IfOk, IfErr, refl, arith, sym, ◌∙◌, ap, subst}
+use Rattle.std.proofs.Common.{◌≡◌, ◌≢◌, ◌↔◌, Bool, IsTrue, Option, Some, None, IfSome, IfNone, unwrap_or, ℕ, zero, suc, ◌^◌, ◌<◌, ◌≤◌, List, length, get_or, Result, Ok, Err, refl, arith, sym, ◌∙◌, ap}
 use Rattle.std.specs.Fmt.{decimal}
 use Rattle.std.specs.Str.Parse.{AllDigits, digits_value, ParsesUnsigned}
 use Rattle.std.proofs.lemmas.Str.Parse.{IsNumeralModel, parse_plain}
 use Rattle.std.proofs.lemmas.Fmt.{decimal-digits_value, decimal_injective, decimal_digit, first_decimal, parse-decimal}
 use Rattle.connect_words.specs.Slots.{IsDecimal, ReadsNumber}
 
-some_injective : {x y : List ℕ} → Some x ≡ Some y → x ≡ y
+pub some_injective : {x y : List ℕ} → Some x ≡ Some y → x ≡ y
 some_injective e = cc
 
 pub own : IsNumeralModel (AllDigits 10) (digits_value 10)

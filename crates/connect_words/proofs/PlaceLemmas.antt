@@ -1,5 +1,5 @@
 -- Why a place is the first bad one.
-use Rattle.std.proofs.Common.{◌≡◌, ◌≢◌, ℕ, zero, suc, ◌+◌, ◌<◌, ◌≤◌, ◌⊎◌, List, [], ◌∷◌, Option, Some, None, length, slice_get, refl, sym, ◌∙◌, ap, subst, arith, add-one, inl, inr}
+use Rattle.std.proofs.Common.{◌≡◌, ◌≢◌, ℕ, zero, suc, ◌+◌, ◌<◌, ◌⊎◌, List, [], ◌∷◌, Some, length, get_or, slice_get, refl, sym, ◌∙◌, ap, subst, arith, inl, inr}
 use Rattle.std.specs.Fmt.{decimal}
 use Rattle.connect_words.specs.declared.command.Command.{Command}
 use Rattle.connect_words.specs.declared.command.Command.TheVariants.{Flow, CutTree, Augment, AugmentArcs, Arborescences, Trees, Forests, Orient, Dijoin, Check, Trial}
@@ -9,8 +9,10 @@ use Rattle.connect_words.specs.declared.slot.Verb.TheVariants as verb
 use Rattle.connect_words.specs.declared.slot.Slot.{Slot}
 use Rattle.connect_words.specs.declared.slot.Slot.TheVariants.{Name, Kind, K, Nodes, Number}
 use Rattle.connect_words.specs.Commands.{Writes, kind_word}
-use Rattle.connect_words.specs.Places.{SomeCommandBegins, IsFirstBadPlace}
+use Rattle.connect_words.specs.Places.{IsFirstBadPlace}
 use Rattle.connect_words.specs.Slots.{Suits, SuitAll, Takes, slots, verb_word, verb_of}
+use Rattle.std.proofs.lemmas.Option.{slice_get_within, slice_get-get_or}
+use Rattle.connect_words.proofs.NumberLemmas.{some_injective}
 use Rattle.connect_words.proofs.CommandLemmas.{writes_slots, some_command}
 use Rattle.connect_words.proofs.VerbLemmas.{verb_word_injective}
 
@@ -27,9 +29,6 @@ writes_some (Orient k) h = h.fill
 writes_some Dijoin h = h.fill
 writes_some Check h = h.fill
 writes_some (Trial kind nodes number) h = h.fill
-
-pub some_same : {x y : List ℕ} → Some x ≡ Some y → x ≡ y
-some_same e = cc
 
 -- for each slot there is a word
 example : (slot : Slot) → (w : List ℕ) × Suits slot w
@@ -67,18 +66,8 @@ suit_length [] (w ∷ ws) h = absurd h
 suit_length (s ∷ ss) [] h = absurd h
 suit_length (s ∷ ss) (w ∷ ws) h = ap suc (suit_length ss ws h.1)
 
-no_end : (ys : List (List ℕ)) (n : ℕ) → None ≡ slice_get ys n → n < length ys → ⊥
-no_end [] n e h = omega (arith, h)
-no_end (y ∷ ys) zero e h = cc
-no_end (y ∷ ys) (suc n) e h = no_end ys n e (omega (arith, h))
-
 reaches : (xs ys : List (List ℕ)) (n : ℕ) → slice_get xs n ≡ slice_get ys n → n < length ys → n < length xs
-reaches [] [] n e h = h
-reaches [] (y ∷ ys) zero e h = absurd cc
-reaches [] (y ∷ ys) (suc n) e h = absurd (no_end ys n e (omega (arith, h)))
-reaches (x ∷ xs) [] n e h = absurd (omega (arith, h))
-reaches (x ∷ xs) (y ∷ ys) zero e h = omega arith
-reaches (x ∷ xs) (y ∷ ys) (suc n) e h = let r : n < length xs = reaches xs ys n e (omega (arith, h)) in omega (arith, r)
+reaches xs ys n e h = slice_get_within xs n (get_or ys n []) (e ∙ slice_get-get_or ys n [] h)
 
 -- no command begins with the first word, or there is none
 pub first_is_bad : (words : List (List ℕ)) → ((v : Verb) → slice_get words 0 ≢ Some (verb_word v)) → IsFirstBadPlace words 1
@@ -99,15 +88,15 @@ pub record StopsAt (v : Verb) (ws : List (List ℕ)) (n : ℕ) : Type 0 where
 
 no_further : (v : Verb) (ws full : List (List ℕ)) (n : ℕ) → StopsAt v ws n → SuitAll (slots v) full → slice_get full n ≡ slice_get ws n → ⊥
 no_further v ws full n stops suit e = elim stops.stop [
-    inl (within, refuses) ↦ refuses (subst (λ w. Takes (slice_get (slots v) n) w) e (suit_at (slots v) full n suit within))
+  | inl (within, refuses) ↦ refuses (subst (λ w. Takes (slice_get (slots v) n) w) e (suit_at (slots v) full n suit within))
   | inr (all, more) ↦ let r : n < length full = reaches full ws n e more in let l : length full ≡ length (slots v) = suit_length (slots v) full suit in omega (arith, all, r, l)
-  ]
+]
 
 later_is_bad : (v : Verb) (ws : List (List ℕ)) (n : ℕ) → StopsAt v ws n → (command : Command) (full : List (List ℕ)) → Writes command full → ((at : ℕ) → at < suc (suc n) → slice_get full at ≡ slice_get (verb_word v ∷ ws) at) → ⊥
 later_is_bad v ws n stops command [] writes agree = writes_some command writes
 later_is_bad v ws n stops command (w ∷ full) writes agree =
     let (is, suit) = writes_slots command w full writes in
-    let same : verb_of command ≡ v = verb_word_injective (verb_of command) v (sym is ∙ some_same (agree 0 (omega arith))) in
+    let same : verb_of command ≡ v = verb_word_injective (verb_of command) v (sym is ∙ some_injective (agree 0 (omega arith))) in
     no_further v ws full n stops (subst (λ u. SuitAll (slots u) full) same suit) (agree (suc n) (omega arith))
 
 -- behind the first word

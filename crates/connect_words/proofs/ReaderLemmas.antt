@@ -1,19 +1,15 @@
 -- What the reader finds in the words, as a command or as the first bad place.
-use Rattle.std.proofs.Common.{◌≡◌, ◌≢◌, ℕ, zero, suc, ◌+◌, ◌<◌, ◌≤◌, ◌⊎◌, List, [], ◌∷◌, Option, Some, None, length, slice_get, refl, sym, ◌∙◌, ap, subst, arith, add-one, inl, inr}
+use Rattle.std.proofs.Common.{◌≡◌, ℕ, suc, ◌+◌, ◌<◌, ◌≤◌, ◌⊎◌, List, [], ◌∷◌, Option, Some, length, slice_get, sym, ◌∙◌, ap, subst, arith, add-one, inl, inr}
 use Rattle.connect_words.specs.declared.command.Command.{Command}
 use Rattle.connect_words.specs.declared.slot.Verb.{Verb}
 use Rattle.connect_words.specs.declared.slot.Slot.{Slot}
 use Rattle.connect_words.specs.Commands.{Writes}
 use Rattle.connect_words.specs.Places.{IsFirstBadPlace}
-use Rattle.connect_words.specs.Slots.{Suits, SuitAll, Takes, slots, verb_word, verb_of, Reads}
+use Rattle.connect_words.specs.Slots.{SuitAll, Takes, slots, verb_word, verb_of, Reads}
+use Rattle.std.proofs.lemmas.Bool.{cases_lt}
+use Rattle.connect_words.proofs.NumberLemmas.{some_injective}
 use Rattle.connect_words.proofs.CommandLemmas.{slots_write}
-use Rattle.connect_words.proofs.PlaceLemmas.{some_same, StopsAt, stop_is_bad}
-
-le_cases : (m n : ℕ) → m ≤ n → (m < n) ⊎ (m ≡ n)
-le_cases zero zero h = inr refl
-le_cases zero (suc n) h = inl (omega arith)
-le_cases (suc m) zero h = absurd (omega (arith, h))
-le_cases (suc m) (suc n) h = elim (le_cases m n (omega (arith, h))) [ inl below ↦ inl (omega (arith, below)) | inr same ↦ inr (ap suc same) ]
+use Rattle.connect_words.proofs.PlaceLemmas.{stop_is_bad}
 
 -- the first word is this verb, and so many slots are filled, whatever the next one is
 pub record Filled (words : List (List ℕ)) (v : Verb) (ss : List Slot) (n : ℕ) : Type 0 where
@@ -32,8 +28,11 @@ ahead w ws slot at h = subst (λ k. Takes slot (slice_get (w ∷ ws) k)) (sym (a
 -- the first bad place
 pub filled_is_bad : (words : List (List ℕ)) (v : Verb) (ss : List Slot) (n : ℕ) → Filled words v ss n → (n < length ss) ⊎ (length ss + 1 < length words) → IsFirstBadPlace words (n + 2)
 filled_is_bad [] v ss n f wrong = let e = f.head in absurd cc
-filled_is_bad (w ∷ ws) v ss n f wrong = subst (λ u. IsFirstBadPlace (u ∷ ws) (n + 2)) (sym (some_same f.head)) (stop_is_bad v ws n (record { filled = filled; stop = elim wrong [ inl below ↦ inl (next below) | inr more ↦ elim (le_cases n (length ss) f.within) [ inl below ↦ inl (next below) | inr all ↦ inr (all ∙ ap length f.slots_are, omega (arith, all, more)) ] ] }))
+filled_is_bad (w ∷ ws) v ss n f wrong = subst (λ u. IsFirstBadPlace (u ∷ ws) (n + 2)) (sym (some_injective f.head)) (stop_is_bad v ws n (record { filled = filled; stop = elim wrong [ inl below ↦ inl (next below) | inr more ↦ elim (cases_lt n (length ss)) [ inl below ↦ inl (next below) | inr over ↦ inr (end over more) ] ] }))
   where
+    end : length ss ≤ n → length ss + 1 < length (w ∷ ws) → (n ≡ length (slots v)) × (n < length ws)
+    end over more = let all : n ≡ length ss = omega (arith, over, f.within) in (all ∙ ap length f.slots_are, omega (arith, all, more))
+
     filled : (at : ℕ) → at < n → Takes (slice_get (slots v) at) (slice_get ws at)
     filled at below = subst (λ s. Takes (slice_get s at) (slice_get ws at)) f.slots_are (behind w ws (slice_get ss at) at (f.before at below))
 
@@ -56,5 +55,5 @@ write_all command ws ss v w verb_is word_is slots_are suit reads =
 pub filled_writes : (words : List (List ℕ)) (v : Verb) (ss : List Slot) (n : ℕ) (command : Command) → Filled words v ss n → length ss ≤ n → length words ≤ length ss + 1 → verb_of command ≡ v → Reads words command → Writes command words
 filled_writes [] v ss n command f all few verb_is reads = let e = f.head in absurd cc
 filled_writes (w ∷ ws) v ss n command f all few verb_is reads =
-    write_all command ws ss v w (sym verb_is) (some_same f.head) f.slots_are
-      (collect ss ws (λ at below. behind w ws (slice_get ss at) at (f.before at (omega (arith, below, all)))) (omega (arith, few))) reads
+    write_all command ws ss v w (sym verb_is) (some_injective f.head) f.slots_are
+    (collect ss ws (λ at below. behind w ws (slice_get ss at) at (f.before at (omega (arith, below, all)))) (omega (arith, few))) reads

@@ -1,5 +1,5 @@
 -- What a command asks of a graph.
-use Rattle.std.specs.Prelude.{ℕ, List, [], ◌∷◌, Option, Some, None, Result, Ok, Err, ⊤, bytes_eq, unwrap_or, slice_get}
+use Rattle.std.specs.Prelude.{ℕ, List, [], Option, Some, None, Result, Ok, Err, bytes_eq, unwrap_or, slice_get}
 use Rattle.std.specs.List.{position_or_len}
 use Rattle.graph_core.specs.Graph.{GraphValue}
 use Rattle.problem_defs.specs.Ask.{misfit_of}

@@ -18,15 +18,25 @@ pub enum TrialKind {
 pub enum Command {
     Flow,
     CutTree,
-    Augment { k: u32 },
-    AugmentArcs { k: u32 },
+    Augment {
+        k: u32,
+    },
+    AugmentArcs {
+        k: u32,
+    },
     Arborescences,
     Trees,
     Forests,
-    Orient { k: u32 },
+    Orient {
+        k: u32,
+    },
     Dijoin,
     Check,
-    Trial { kind: TrialKind, nodes: u32, number: u32 },
+    Trial {
+        kind: TrialKind,
+        nodes: u32,
+        number: u32,
+    },
 }
 
 /// The words are no command. The place of the first bad word is counted from 1.

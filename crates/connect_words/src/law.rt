@@ -8,5 +8,4 @@ pub fn words_have_one_meaning()
     ensures command { (words : List (List ℕ)) (one other : Command) → Writes one words → Writes other words → one ≡ other }
     ensures place { (words : List (List ℕ)) (one other : ℕ) → IsFirstBadPlace words one → IsFirstBadPlace words other → one ≡ other }
     ensures not_both { (words : List (List ℕ)) (command : Command) (place : ℕ) → Writes command words → IsFirstBadPlace words place → ⊥ }
-{
-}
+{}

@@ -67,12 +67,18 @@ fn command(verb: Verb, words: &[String]) -> Command
     match verb {
         Verb::Flow => Command::Flow,
         Verb::CutTree => Command::CutTree,
-        Verb::Augment => Command::Augment { k: number_at(words, 1) },
-        Verb::AugmentArcs => Command::AugmentArcs { k: number_at(words, 1) },
+        Verb::Augment => Command::Augment {
+            k: number_at(words, 1),
+        },
+        Verb::AugmentArcs => Command::AugmentArcs {
+            k: number_at(words, 1),
+        },
         Verb::Arborescences => Command::Arborescences,
         Verb::Trees => Command::Trees,
         Verb::Forests => Command::Forests,
-        Verb::Orient => Command::Orient { k: number_at(words, 1) },
+        Verb::Orient => Command::Orient {
+            k: number_at(words, 1),
+        },
         Verb::Dijoin => Command::Dijoin,
         Verb::Check => Command::Check,
         Verb::Trial => Command::Trial {

@@ -1,5 +1,5 @@
 -- The plain text of a graph is a text of it.
-use Rattle.std.proofs.Common.{◌≡◌, ◌≢◌, ℕ, ◌+◌, ◌-◌, ◌<◌, ◌≤◌, suc, zero, Bool, true, false, nat_le, List, [], ◌∷◌, ◌++◌, length, take, drop, get_or, map, refl, sym, ap, subst, ◌∙◌, inl, inr, Some, None, true≢false, append_assoc, append-nil, take-append-drop, drop-cons, drop_of_length-le, le_refl, All, arith, length-append}
+use Rattle.std.proofs.Common.{◌≡◌, ℕ, ◌+◌, ◌-◌, ◌<◌, ◌≤◌, suc, zero, Bool, true, false, nat_le, List, [], ◌∷◌, ◌++◌, length, take, drop, get_or, map, refl, sym, ap, subst, ◌∙◌, inl, inr, Some, None, append_assoc, append-nil, take-append-drop, drop-cons, drop_of_length-le, le_refl, All, arith, length-append}
 use Rattle.std.specs.Prelude.{◌==◌, codes, slice_get}
 use Rattle.std.specs.List.{flat_map, list_any}
 use Rattle.std.specs.Str.{bytes_eq}
@@ -9,19 +9,18 @@ use Rattle.std.proofs.lemmas.List.Elements.{All-map, All-head, All-tail, All-nil
 use Rattle.std.proofs.lemmas.List.Folds.{list_any_none, list_any_at}
 use Rattle.std.proofs.lemmas.Option.{slice_get-get_or}
 use Rattle.std.proofs.lemmas.Slice.Eq.{bytes_eq-Decides}
-use Rattle.std.proofs.Math.Seq.{get_or-append_seam, take-append_seam, drop-append_seam}
+use Rattle.std.proofs.Math.Seq.{get_or-append_seam, take-append_seam}
 use Rattle.std.proofs.Math.Dec.{eqb-suc-zero}
 use Rattle.std.proofs.lemmas.Grind.{common_steps, flat_map-append}
 use Rattle.graph_core.specs.Name.{IsName}
 use Rattle.graph_core.specs.Graph.{GraphValue, IsGraph, IsWithinSize}
 use Rattle.graph_core.specs.declared.graph.Kind.{Kind}
 use Rattle.graph_core.specs.declared.graph.Kind.TheVariants.{Undirected, Directed}
-use Rattle.graph_core.specs.declared.graph.Line.{Line}
 use Rattle.graph_text.specs.Said.{Said, Skipped, Header, Node, Edge, Arc, End}
-use Rattle.graph_text.specs.Before.{Ends, Content, content_of, headers_on, nodes_on, ends_on}
+use Rattle.graph_text.specs.Before.{Ends, Content, content_of, nodes_on, ends_on}
 use Rattle.graph_text.specs.Cause.{cause, is_name}
 use Rattle.graph_text.specs.Text.{sayings, cause_at, said_at, ends_in, StandsFor, GoesOn, EndsAt, IsText}
-use Rattle.graph_text.specs.Reading.{CutsNoLine, IsGraphText, ReadsText, IsTextAlone}
+use Rattle.graph_text.specs.Reading.{IsGraphText, ReadsText, IsTextAlone}
 use Rattle.graph_text.specs.PlainText.{header_line, node_line, ends_line, plain_text}
 use Rattle.graph_text.proofs.DraftLemmas.{is_name-Decides}
 use Rattle.graph_text.proofs.TextLemmas.{goes_on, said_split, cause_split}
@@ -60,21 +59,21 @@ written : (g : GraphValue) → IsGraph g → IsWithinSize g → IsWritten g.kind
 written g graph small = record {
   named = graph.named;
   distinct = λ k l. list_any_none (bytes_eq (get_or g.names k [])) (take k g.names) (λ j d m.
-    let long = length-take-le k g.names (omega (arith, l)) in
-    let early : j < k = omega (arith, m, long) in
-    let same : get_or (take k g.names) j d ≡ get_or g.names j [] = get_or-take k g.names j d early ∙ get_or_default g.names j d [] (omega (arith, early, l)) in
-    other_name (get_or g.names k []) (get_or (take k g.names) j d) (λ e. graph.distinct j k [] early l (sym same ∙ sym e)));
+      let long = length-take-le k g.names (omega (arith, l)) in
+      let early : j < k = omega (arith, m, long) in
+      let same : get_or (take k g.names) j d ≡ get_or g.names j [] = get_or-take k g.names j d early ∙ get_or_default g.names j d [] (omega (arith, early, l)) in
+      other_name (get_or g.names k []) (get_or (take k g.names) j d) (λ e. graph.distinct j k [] early l (sym same ∙ sym e)));
   some = omega (arith, graph.some);
   few = small.nodes;
   joined = All-map (Joins g.kind g.names) (ends_in g.names) g.lines (λ k d l.
-    let line = get_or g.lines k d in
-    let fits = graph.ends k d l in
-    record {
-      named = record { tail = graph.named line.tail [] fits.tail; head = graph.named line.head [] fits.head; free = λ undirected. graph.free undirected k d l };
-      tail_known = known g.names line.tail fits.tail;
-      head_known = known g.names line.head fits.head;
-      apart = other_name (get_or g.names line.tail []) (get_or g.names line.head []) (λ e. fits.apart (one_place g.names line.tail line.head graph.distinct fits.tail fits.head e));
-    });
+      let line = get_or g.lines k d in
+      let fits = graph.ends k d l in
+      record {
+        named = record { tail = graph.named line.tail [] fits.tail; head = graph.named line.head [] fits.head; free = λ undirected. graph.free undirected k d l };
+        tail_known = known g.names line.tail fits.tail;
+        head_known = known g.names line.head fits.head;
+        apart = other_name (get_or g.names line.tail []) (get_or g.names line.head []) (λ e. fits.apart (one_place g.names line.tail line.head graph.distinct fits.tail fits.head e));
+      });
   few_lines = omega (arith, small.lines, length-map g.lines (ends_in g.names));
 }
 
@@ -209,8 +208,7 @@ text_of-EndsAt kind ns es plain =
     let both = content_of-both kind ns es (free_of kind ns es plain.joined) in
     let split : text_of kind ns es ≡ front ++ End ∷ [] = ap (λ l. Header kind ∷ l) (sym (append_assoc (map Node ns) (map f es) (End ∷ []))) in
     let last : length ns + 1 + length es ≡ length front = omega (arith, length-map es f, length-map ns Node, length-append (map Node ns) (map f es)) in
-    let long : length (text_of kind ns es) ≡ length front + 1 = ap length split ∙ length-append front (End ∷ []) in
-    (
+    let long : length (text_of kind ns es) ≡ length front + 1 = ap length split ∙ length-append front (End ∷ []) in (
       record {
         within = omega (arith, last, long);
         before = λ at l. before_end kind ns es at plain l;
@@ -228,8 +226,7 @@ plain_text-IsGraphText g graph small =
     let says : sayings (plain_text g) ≡ text_of g.kind g.names es = sayings-text g.kind g.names es graph.named (λ k d l. (plain.joined k d l).named) in
     let (ends, holds, long) = text_of-EndsAt g.kind g.names es plain in
     let last = length g.names + 1 + length es in
-    let stands : StandsFor (content g.kind g.names es) g = record { graph = graph; kind = refl; names = refl; ends = refl } in
-    (
+    let stands : StandsFor (content g.kind g.names es) g = record { graph = graph; kind = refl; names = refl; ends = refl } in (
       last,
       subst (λ all. IsText all last g) (sym says) (record { ends = ends; says = subst (λ c. StandsFor c g) (sym holds) stands }),
       long ∙ ap length (sym says),
@@ -242,8 +239,7 @@ fed : (g : GraphValue) → (front : List ℕ) × (plain_text g ≡ front ++ 10 �
 fed g =
     let h = header_line g.kind in
     let ns = flat_map node_line g.names in
-    let es = flat_map (ends_line g.kind) (map (ends_in g.names) g.lines) in
-    (
+    let es = flat_map (ends_line g.kind) (map (ends_in g.names) g.lines) in (
       h ++ (ns ++ (es ++ codes "end")),
       sym (append_assoc h (ns ++ (es ++ codes "end")) (10 ∷ []) ∙ ap (λ l. h ++ l) (append_assoc ns (es ++ codes "end") (10 ∷ []) ∙ ap (λ l. ns ++ l) (append_assoc es (codes "end") (10 ∷ [])))),
     )

@@ -1,10 +1,10 @@
 -- Bytes that are cut behind whole lines.
-use Rattle.std.proofs.Common.{◌≡◌, ℕ, ◌+◌, ◌<◌, ◌≤◌, Bool, true, false, cond, List, [], ◌∷◌, ◌++◌, length, take, drop, get_or, map, refl, sym, ap, ◌∙◌, inl, inr, append_assoc, append-nil, take-append-drop, take_all, drop_of_length-le, arith}
+use Rattle.std.proofs.Common.{◌≡◌, ℕ, ◌≤◌, true, false, cond, List, [], ◌∷◌, ◌++◌, length, take, drop, map, refl, sym, ap, ◌∙◌, inl, inr, append_assoc, append-nil, take-append-drop, take_all, drop_of_length-le, arith}
 use Rattle.std.specs.List.{concat, onto_first}
 use Rattle.std.proofs.lemmas.List.{take_more, map-append}
 use Rattle.std.proofs.lemmas.Option.{slice_get_within, get_or_from_slice_get}
 use Rattle.graph_text.specs.Lines.{lines, is_line_feed}
-use Rattle.graph_text.specs.Said.{Said, line_says}
+use Rattle.graph_text.specs.Said.{line_says}
 use Rattle.graph_text.specs.Text.{sayings}
 use Rattle.graph_text.specs.Reading.{CutsNoLine}
 

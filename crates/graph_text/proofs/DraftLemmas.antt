@@ -1,5 +1,5 @@
 -- What holds of a graph that is being read, as it grows and at its end.
-use Rattle.std.proofs.Common.{◌≡◌, ◌≢◌, ℕ, ◌+◌, ◌<◌, ◌≤◌, Bool, true, false, List, [], ◌∷◌, ◌++◌, length, get_or, refl, sym, ap, ◌∙◌, subst, position, nat_le, ◌&&◌, Some, None, All, true≢false, length-append, arith}
+use Rattle.std.proofs.Common.{◌≡◌, ◌≢◌, ℕ, ◌+◌, ◌<◌, Bool, true, false, List, [], ◌∷◌, ◌++◌, length, get_or, refl, sym, ap, ◌∙◌, position, nat_le, ◌&&◌, Some, All, true≢false, length-append, arith}
 use Rattle.std.specs.Bool.{Decides}
 use Rattle.std.specs.declared.option.Option.{Option}
 use Rattle.std.specs.List.{list_any}
@@ -11,7 +11,7 @@ use Rattle.std.proofs.lemmas.List.Sums.{AllPass-from_list_all, list_all-from_All
 use Rattle.std.proofs.lemmas.List.Quantifiers.{position-Some, all_pairs_push}
 use Rattle.std.proofs.lemmas.Slice.Eq.{bytes_eq-Decides}
 use Rattle.graph_core.specs.Name.{IsName, is_name_byte}
-use Rattle.graph_core.specs.Graph.{GraphValue, Fits, IsGraph}
+use Rattle.graph_core.specs.Graph.{Fits, IsGraph}
 use Rattle.graph_core.specs.declared.graph.Kind.{Kind}
 use Rattle.graph_core.specs.declared.graph.Kind.TheVariants.{Undirected, Directed}
 use Rattle.graph_core.specs.declared.graph.Line.{Line}
@@ -81,8 +81,8 @@ Fits-found names a b line tail head apart = record {
   tail = (position-Some (bytes_eq a) names line.tail [] tail).0;
   head = (position-Some (bytes_eq b) names line.head [] head).0;
   apart = λ same.
-    let equal : a ≡ b = sym (name_at names a line.tail tail) ∙ ap (λ i. get_or names i []) same ∙ name_at names b line.head head in
-    true≢false (sym ((bytes_eq-Decides a b).1 equal) ∙ apart);
+      let equal : a ≡ b = sym (name_at names a line.tail tail) ∙ ap (λ i. get_or names i []) same ∙ name_at names b line.head head in
+      true≢false (sym ((bytes_eq-Decides a b).1 equal) ∙ apart);
 }
 
 -- what was read is a graph

@@ -1,19 +1,17 @@
 -- Bytes have one reading.
-use Rattle.std.proofs.Common.{◌≡◌, ◌≢◌, ℕ, ◌+◌, ◌<◌, ◌≤◌, List, [], ◌∷◌, ◌++◌, length, take, drop, get_or, map, refl, sym, ap, subst, ◌∙◌, inl, inr, Some, None, All, arith}
+use Rattle.std.proofs.Common.{◌≡◌, ◌≢◌, ℕ, ◌+◌, ◌<◌, ◌≤◌, List, [], ◌∷◌, length, take, drop, get_or, map, refl, sym, ap, subst, ◌∙◌, inl, inr, None, All, arith}
 use Rattle.std.specs.Prelude.{AllPairs}
 use Rattle.std.specs.List.{concat}
 use Rattle.std.proofs.lemmas.Bool.{cases_lt}
 use Rattle.std.proofs.lemmas.List.{length-map, length-take-le, take_at, take-append-le}
 use Rattle.std.proofs.lemmas.List.Elements.{All-head, All-tail}
 use Rattle.graph_core.specs.Graph.{GraphValue, Fits}
-use Rattle.graph_core.specs.declared.graph.Kind.{Kind}
 use Rattle.graph_core.specs.declared.graph.Line.{Line}
 use Rattle.graph_text.specs.declared.refusal.Why.{Why}
-use Rattle.graph_text.specs.declared.refusal.Why.TheVariants.{BadLine}
 use Rattle.graph_text.specs.Lines.{lines}
 use Rattle.graph_text.specs.Said.{Said, Skipped, line_says}
 use Rattle.graph_text.specs.Before.{Content, content_of}
-use Rattle.graph_text.specs.Text.{sayings, said_at, cause_at, ends_in, StandsFor, GoesOn, EndsAt, IsText, IsFaultAt, IsFirstFault}
+use Rattle.graph_text.specs.Text.{sayings, cause_at, ends_in, StandsFor, EndsAt, IsFaultAt, IsFirstFault}
 use Rattle.graph_text.specs.Reading.{ReadsText, IsFault, IsTextAlone, IsLaterLine, IsFaultAlone, IsFirstSaid}
 use Rattle.graph_text.proofs.CutLemmas.{lines-cut, sayings-cut, concat-lines}
 use Rattle.graph_text.proofs.TextLemmas.{EndsAt-more}
@@ -137,8 +135,7 @@ one_text bytes g h c d first second =
     let a = found bytes g c first in
     let b = found bytes h d second in
     let same : a.last ≡ b.last = one_end (sayings bytes) a.last b.last a.ends b.ends in
-    let says : StandsFor (content_of (take b.last (sayings bytes))) g = subst (λ n. StandsFor (content_of (take n (sayings bytes))) g) same a.says in
-    (
+    let says : StandsFor (content_of (take b.last (sayings bytes))) g = subst (λ n. StandsFor (content_of (take n (sayings bytes))) g) same a.says in (
       one_graph (content_of (take b.last (sayings bytes))) g h says b.says,
       a.count_is ∙ ap (λ n. length (concat (take (n + 1) (lines bytes)))) same ∙ sym b.count_is,
     )

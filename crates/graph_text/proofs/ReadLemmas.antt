@@ -1,5 +1,5 @@
 -- What the reader keeps from line to line.
-use Rattle.std.proofs.Common.{◌≡◌, ℕ, ◌+◌, ◌-◌, ◌<◌, ◌≤◌, List, [], ◌∷◌, ◌++◌, length, take, drop, map, refl, sym, ap, subst, ◌∙◌, inl, inr, Some, None, append_assoc, append-nil, length-append, length-drop, take_all, arith}
+use Rattle.std.proofs.Common.{◌≡◌, ℕ, ◌+◌, ◌<◌, ◌≤◌, List, [], ◌∷◌, ◌++◌, length, take, drop, map, refl, sym, ap, subst, ◌∙◌, inl, inr, Some, None, append_assoc, append-nil, length-append, length-drop, arith}
 use Rattle.std.specs.Prelude.{slice_get}
 use Rattle.std.proofs.lemmas.Bool.{cases_lt}
 use Rattle.std.proofs.lemmas.List.{map-append, append_cancel_right, drop-drop, get_or-drop, take_at}
@@ -7,7 +7,7 @@ use Rattle.std.proofs.Math.Seq.{drop-append_seam}
 use Rattle.std.proofs.lemmas.Option.{slice_get_within, slice_get-get_or, get_or_from_slice_get}
 use Rattle.graph_text.specs.declared.refusal.Why.{Why}
 use Rattle.graph_text.specs.Lines.{lines}
-use Rattle.graph_text.specs.Said.{Said, End, line_says}
+use Rattle.graph_text.specs.Said.{End, line_says}
 use Rattle.graph_text.specs.Before.{Content, content_of}
 use Rattle.graph_text.specs.Cause.{cause}
 use Rattle.graph_text.specs.Text.{sayings, said_at, cause_at, GoesOn, missing}
@@ -87,8 +87,7 @@ fault_next bytes rest first after line content reading count next why here =
     let front = sayings (take reading.count bytes) in
     let said = line_says first in
     let back = sayings after in
-    let many : length (sayings bytes) ≡ length front + length (said ∷ back) = ap length next.all ∙ length-append front (said ∷ back) in
-    (
+    let many : length (sayings bytes) ≡ length front + length (said ∷ back) = ap length next.all ∙ length-append front (said ∷ back) in (
       line,
       refl,
       record {
@@ -146,8 +145,7 @@ reading_next bytes rest first after line content reading count next shorter none
 pub fault_end : (bytes rest : List ℕ) (line : ℕ) (content : Content) → Reading bytes rest line content → length rest ≡ 0 → IsFault bytes (line + 1) (missing content)
 fault_end bytes rest line content reading empty =
     let front = sayings (take reading.count bytes) in
-    let all : sayings bytes ≡ front = ap (map line_says) (reading.cut ∙ ap (λ l. lines (take reading.count bytes) ++ l) (lines-empty rest empty) ∙ append-nil (lines (take reading.count bytes))) in
-    (
+    let all : sayings bytes ≡ front = ap (map line_says) (reading.cut ∙ ap (λ l. lines (take reading.count bytes) ++ l) (lines-empty rest empty) ∙ append-nil (lines (take reading.count bytes))) in (
       line,
       refl,
       record {

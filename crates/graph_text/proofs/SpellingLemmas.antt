@@ -1,5 +1,5 @@
 -- What the lines of a plain text say.
-use Rattle.std.proofs.Common.{◌≡◌, ℕ, ◌-◌, ◌<◌, Bool, true, false, nat_le, ◌&&◌, ◌||◌, List, [], ◌∷◌, ◌++◌, length, get_or, map, refl, sym, ap, subst, ◌∙◌, nat_lt, eq-eqb, lt-ltb, true≢false, append_assoc, length-append, All, arith}
+use Rattle.std.proofs.Common.{◌≡◌, ℕ, ◌-◌, ◌<◌, Bool, true, false, ◌&&◌, ◌||◌, List, [], ◌∷◌, ◌++◌, length, get_or, map, refl, sym, ap, ◌∙◌, nat_lt, eq-eqb, lt-ltb, true≢false, append_assoc, length-append, All, arith}
 use Rattle.std.specs.Prelude.{codes, filter, ◌==◌}
 use Rattle.std.specs.List.{flat_map, slice_split, onto_first}
 use Rattle.std.specs.Io.BufRead.{strip_last, ends_with_byte}
@@ -12,11 +12,11 @@ use Rattle.std.proofs.Math.Seq.{get_or-append_seam}
 use Rattle.graph_core.specs.Name.{IsName, is_name_byte}
 use Rattle.graph_core.specs.declared.graph.Kind.{Kind}
 use Rattle.graph_core.specs.declared.graph.Kind.TheVariants.{Undirected, Directed}
-use Rattle.graph_text.specs.Lines.{lines, content, words, is_blank, is_line_feed, is_some_word}
+use Rattle.graph_text.specs.Lines.{lines, words, is_blank, is_line_feed, is_some_word}
 use Rattle.graph_text.specs.Said.{Said, Header, Node, Edge, Arc, End, says, line_says}
 use Rattle.graph_text.specs.Before.{Ends}
 use Rattle.graph_text.specs.Cause.{is_name}
-use Rattle.graph_text.specs.PlainText.{header_line, node_line, ends_line, line_end}
+use Rattle.graph_text.specs.PlainText.{header_line, node_line, ends_line}
 use Rattle.graph_text.specs.Text.{sayings}
 use Rattle.graph_text.proofs.DraftLemmas.{is_name-Decides}
 use Rattle.graph_text.proofs.LinesLemmas.{some_first}
@@ -68,12 +68,12 @@ pub IsWord-name : (name : List ℕ) → IsName name → IsWord name
 IsWord-name name named = record {
   some = named.some;
   plain = λ k d l.
-    let here = named.allowed k d l in
-    record {
-      no_blank = λ i. not_name_byte (get_or name k d) 32 here refl i || not_name_byte (get_or name k d) 9 here refl i;
-      no_line_feed = not_name_byte (get_or name k d) 10 here refl;
-      no_return = not_name_byte (get_or name k d) 13 here refl;
-    };
+      let here = named.allowed k d l in
+      record {
+        no_blank = λ i. not_name_byte (get_or name k d) 32 here refl i || not_name_byte (get_or name k d) 9 here refl i;
+        no_line_feed = not_name_byte (get_or name k d) 10 here refl;
+        no_return = not_name_byte (get_or name k d) 13 here refl;
+      };
 }
 
 -- a word of the format

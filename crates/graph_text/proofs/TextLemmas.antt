@@ -1,21 +1,19 @@
 -- The lines of a text with what stands before them and behind them.
-use Rattle.std.proofs.Common.{◌≡◌, ℕ, ◌+◌, ◌<◌, ◌≤◌, suc, Bool, true, false, ◌||◌, not, List, [], ◌∷◌, ◌++◌, length, take, get_or, refl, sym, ap, subst, ◌∙◌, All, Some, None, append-nil, length-append, true≢false, lit<, zero, arith}
+use Rattle.std.proofs.Common.{◌≡◌, ℕ, ◌<◌, suc, Bool, true, false, ◌||◌, not, List, [], ◌∷◌, ◌++◌, length, get_or, refl, sym, ap, subst, ◌∙◌, All, Some, None, append-nil, length-append, true≢false, lit<, zero, arith}
 use Rattle.std.specs.Prelude.{is_some, slice_get, nat_le}
 use Rattle.std.specs.Str.{bytes_eq}
-use Rattle.std.specs.List.{find, flat_map, list_any}
+use Rattle.std.specs.List.{find, flat_map}
 use Rattle.std.specs.declared.option.Option.{Option}
-use Rattle.std.proofs.lemmas.Bool.{not-false, leb-false, eqb-false, cond-true, cond-false}
+use Rattle.std.proofs.lemmas.Bool.{not-false, leb-false, cond-true, cond-false}
 use Rattle.std.proofs.lemmas.Grind.{flat_map-append}
 use Rattle.std.proofs.lemmas.List.{take_at, take-append-le, get_or_append_left}
 use Rattle.std.proofs.Math.Seq.{get_or-append_seam}
-use Rattle.graph_core.specs.Name.{IsName}
 use Rattle.graph_core.specs.declared.graph.Kind.{Kind}
 use Rattle.graph_core.specs.declared.graph.Kind.TheVariants.{Undirected, Directed}
-use Rattle.graph_text.specs.declared.refusal.Why.{Why}
 use Rattle.graph_text.specs.declared.refusal.Why.TheVariants.{NoEnd}
 use Rattle.graph_text.specs.Said.{Said, Skipped, Header, Node, Edge, Arc, End, Other}
-use Rattle.graph_text.specs.Before.{Ends, Content, content_of, headers_on, nodes_on, ends_on, is_known}
-use Rattle.graph_text.specs.Cause.{cause, causes, holds, is_name, lacks, is_wrong}
+use Rattle.graph_text.specs.Before.{Content, content_of, headers_on, nodes_on, ends_on, is_known}
+use Rattle.graph_text.specs.Cause.{cause, causes, holds, is_name, is_wrong}
 use Rattle.graph_text.specs.Text.{said_at, cause_at, GoesOn, EndsAt}
 use Rattle.graph_text.specs.Taken.{CanTake, CanJoin, grown}
 use Rattle.graph_text.proofs.DraftLemmas.{is_name-Decides}

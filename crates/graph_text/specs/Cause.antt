@@ -10,7 +10,7 @@ use Rattle.graph_core.specs.declared.graph.Kind.TheVariants.{Undirected, Directe
 use Rattle.graph_text.specs.declared.refusal.Why.{Why}
 use Rattle.graph_text.specs.declared.refusal.Why.TheVariants.{NoHeader, BadLine, BadName, TwiceNode, UnknownNode, Loop, WrongKind, NoNode, NoEnd, ManyNodes, ManyLines}
 use Rattle.graph_text.specs.Said.{Said, Skipped, Header, Node, Edge, Arc, End, Other}
-use Rattle.graph_text.specs.Before.{Ends, Content, content_of, nodes_on, ends_on, is_known}
+use Rattle.graph_text.specs.Before.{Ends, Content, nodes_on, ends_on, is_known}
 
 -- 1 to 32 letters, digits, underscores, dots and dashes
 abbrev pub is_name : List ℕ → Bool

@@ -3,7 +3,7 @@ use Rattle.std.specs.Prelude.{ℕ, ◌+◌, ◌-◌, ◌<◌, ◌≤◌, ◌≡�
 use Rattle.std.specs.declared.option.Option.TheVariants.{None, Some}
 use Rattle.std.specs.Str.{bytes_eq}
 use Rattle.graph_core.specs.Name.{IsName}
-use Rattle.graph_core.specs.declared.graph.Kind.TheVariants.{Undirected, Directed}
+use Rattle.graph_core.specs.declared.graph.Kind.TheVariants.{Directed}
 use Rattle.graph_text.specs.Said.{Said, Skipped, Header, Node, Edge, Arc, End, Other}
 use Rattle.graph_text.specs.Before.{Ends, Content, content_of, is_known}
 use Rattle.graph_text.specs.Text.{sayings, EndsAt}

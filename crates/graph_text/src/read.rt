@@ -143,14 +143,14 @@ fn first_said(bytes: &[u8]) -> Option<usize>
     ensures within { IfSome result (λ at. at < length bytes.now) }
 {
     let mut rest = bytes;
-    let mut line = 0;
+    let mut at = 0;
     while !rest.is_empty() {
         let (first, after) = first_line(rest);
         let item = item_of_line(first);
         if !is_skipped(&item) {
-            return Some(line);
+            return Some(at);
         }
-        line += 1;
+        at += 1;
         rest = after;
     }
     None

@@ -1,12 +1,12 @@
 -- Classes as trees of parents.
-use Rattle.std.proofs.Common.{ℕ, ◌≡◌, ◌≢◌, ◌+◌, ◌<◌, ◌≤◌, ◌⊎◌, inl, inr, Bool, true, ◌&&◌, List, [], ◌∷◌, length, get_or, set, count_by, refl, sym, ap, ◌∙◌, arith, ⊎_elim, subst}
+use Rattle.std.proofs.Common.{ℕ, ◌≡◌, ◌≢◌, ◌+◌, ◌<◌, ◌≤◌, ◌⊎◌, inl, inr, true, ◌&&◌, List, [], ◌∷◌, length, get_or, set, count_by, refl, sym, ap, ◌∙◌, arith, ⊎_elim, subst}
 use Rattle.std.specs.Prelude.{nat_lt, All}
 use Rattle.std.proofs.lemmas.Bool.{cases_eq, and_from, not_from_true, lt-ltb}
 use Rattle.std.proofs.lemmas.List.Elements.{All-head, All-tail}
 use Rattle.std.proofs.lemmas.List.{length-set, get_or-set_same, get_or-set_other}
 use Rattle.graph_core.specs.declared.graph.Line.{Line}
 use Rattle.graph_core.specs.Graph.{Fits}
-use Rattle.graphic_matroid.specs.Labels.{unfit, joined, Labels, Adds}
+use Rattle.graphic_matroid.specs.Labels.{unfit, joined, Adds}
 use Rattle.graphic_matroid.specs.Counts.{weight_false, count-cons}
 use Rattle.graphic_matroid.specs.Roots.{AreRoots, AreClasses}
 use Rattle.graphic_matroid.specs.JoinLaws.{joined_at, joined_off, joined_same, labels_more}
@@ -40,9 +40,9 @@ pub roots_raised : (n : ℕ) (parents ranks : List ℕ) (a more : ℕ) → AreRo
 roots_raised n parents ranks a more w la root up =
     let short : a < length ranks = rw w.ranks_long la in
     let grown : (v : ℕ) → get_or ranks v 0 ≤ get_or (set ranks a more) v 0 = λ v. ⊎_elim
-        (λ e. rw (at_set ranks a more v short e) (subst (λ x. get_or ranks x 0 ≤ more) (sym e) up))
-        (λ ne. rw (get_or-set_other ranks a v more 0 ne) (omega arith))
-        (cases_eq v a) in
+    (λ e. rw (at_set ranks a more v short e) (subst (λ x. get_or ranks x 0 ≤ more) (sym e) up))
+    (λ ne. rw (get_or-set_other ranks a v more 0 ne) (omega arith))
+    (cases_eq v a) in
     record {
       parents_long = w.parents_long;
       ranks_long = length-set ranks a more ∙ w.ranks_long;

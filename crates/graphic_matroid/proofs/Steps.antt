@@ -1,11 +1,11 @@
 -- The steps of the test.
-use Rattle.std.proofs.Common.{ℕ, zero, suc, ◌≡◌, ◌≢◌, ◌+◌, ◌<◌, ◌⊎◌, inl, inr, Bool, true, false, List, [], ◌∷◌, length, get_or, set, take, count_by, slice_get, Some, sym, refl, ap, ◌∙◌, arith, subst, ⊎_elim}
+use Rattle.std.proofs.Common.{ℕ, ◌≡◌, ◌≢◌, ◌+◌, ◌<◌, ◌⊎◌, inl, inr, Bool, true, false, List, length, get_or, set, take, count_by, sym, refl, ap, ◌∙◌, arith, subst, ⊎_elim}
 use Rattle.graph_core.specs.Side.{has}
 use Rattle.graph_core.specs.Trees.{IsAcyclic}
 use Rattle.graph_core.specs.declared.graph.Line.{Line}
 use Rattle.graphic_matroid.specs.Chosen.{chosen}
 use Rattle.graphic_matroid.specs.Labels.{unfit}
-use Rattle.graphic_matroid.specs.Roots.{AreRoots, AreClasses}
+use Rattle.graphic_matroid.specs.Roots.{AreClasses}
 use Rattle.graphic_matroid.specs.LabelLaws.{circuit, forest_more}
 use Rattle.graphic_matroid.specs.ForestLaws.{labels_same, forest_same, take_without, take_with, forest_front, fit_at, fit_ends}
 use Rattle.graphic_matroid.proofs.RootLaws.{classes_joined}

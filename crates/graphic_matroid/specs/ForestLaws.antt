@@ -1,5 +1,5 @@
 -- The forests of a graph are the free sets of a matroid.
-use Rattle.std.proofs.Common.{ℕ, zero, suc, ◌≡◌, ◌+◌, ◌<◌, ◌≤◌, Bool, true, false, cond, eqb, ltb, ◌&&◌, List, [], ◌∷◌, length, get_or, set, map, take, slice_index, replicate, count_by, sym, refl, ap, ◌∙◌, arith, ⊎_elim, subst, zero-add, add-one}
+use Rattle.std.proofs.Common.{ℕ, zero, suc, ◌≡◌, ◌+◌, ◌<◌, ◌≤◌, Bool, true, false, cond, eqb, ltb, ◌&&◌, List, [], ◌∷◌, length, get_or, set, map, take, replicate, count_by, sym, refl, ap, ◌∙◌, arith, ⊎_elim, subst, zero-add, add-one}
 use Rattle.std.specs.List.{range_with_len, sum_by}
 use Rattle.std.proofs.lemmas.Bool.{cases_Bool, ne_eqb, and_parts, and_from, and_left, not-false, ltb-true, false_from_ne_true, cases_eq}
 use Rattle.std.proofs.lemmas.List.Sums.{get_or-le-sum_by}

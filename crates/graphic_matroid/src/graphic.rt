@@ -29,7 +29,9 @@ impl Graphic {
     {
         graph.known();
         let nodes = graph.node_count();
-        let lines = lines_of(alloc, graph)?;
+        let Ok(lines) = Vec::from_slice(alloc, graph.lines()) else {
+            return Err(NoMemory);
+        };
         let parents = zeros(alloc, nodes)?;
         let ranks = zeros(alloc, nodes)?;
         let classes = Classes { parents, ranks };
@@ -86,19 +88,6 @@ fn is_forest(lines: &[Line], set: &Marks, classes: &mut Classes) -> bool
         }
     }
     true
-}
-
-/// The lines of the graph in their order.
-fn lines_of(alloc: Global, graph: &Graph) -> Result<Vec<Line>, NoMemory>
-    ensures { IfOk result (λ lines. lines.items ≡ graph.now.lines) }
-{
-    let mut lines = Vec::new(alloc);
-    for j in 0..graph.line_count() {
-        if lines.push(graph.line(j)).is_err() {
-            return Err(NoMemory);
-        }
-    }
-    Ok(lines)
 }
 
 /// One number for each node.

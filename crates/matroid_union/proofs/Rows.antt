@@ -1,8 +1,9 @@
 -- Parts as rows.
-use Rattle.std.proofs.Common.{ℕ, zero, suc, ◌≡◌, ◌+◌, ◌<◌, ◌≤◌, Bool, true, false, cond, eqb, ◌&&◌, ◌⊎◌, inl, inr, List, [], ◌∷◌, ◌++◌, length, get_or, map, take, drop, replicate, Option, Some, None, sym, refl, ap, ◌∙◌, arith, ⊎_elim, zero-add}
+use Rattle.std.proofs.Common.{ℕ, zero, suc, ◌≡◌, ◌+◌, ◌<◌, ◌≤◌, Bool, true, false, cond, eqb, ◌&&◌, ◌⊎◌, inl, inr, List, [], ◌∷◌, ◌++◌, length, get_or, set, map, take, drop, replicate, Option, Some, None, sym, refl, ap, ◌∙◌, arith, ⊎_elim, zero-add}
+use Rattle.std.specs.Prelude.{slice_get}
 use Rattle.std.specs.List.{filter, range_with_len, concat}
 use Rattle.std.proofs.lemmas.Bool.{cases_eq, cases_lt, cases_Bool, both_ways, eqb-true, eq-eqb, ne_eqb, or_cases, or_left, or_right, and_from, false_from_ne_true}
-use Rattle.std.proofs.lemmas.List.FromFn.{length-map-range_with_len, get_or-map-range_with_len, map-range_with_len_more, filter_of_map_range_with_len_more}
+use Rattle.std.proofs.lemmas.List.FromFn.{length-map-range_with_len, get_or-map-range_with_len, fill_by_all, filter_of_map_range_with_len_more}
 use Rattle.std.proofs.lemmas.List.Sums.{sum_by-cons, sum_by-append}
 use Rattle.graph_core.specs.Side.{has}
 use Rattle.matroid_union.specs.Matroid.{IsMatroid}
@@ -16,7 +17,8 @@ use Rattle.matroid_union.proofs.Exchanges.{part_of}
 use Rattle.matroid_union.proofs.Kept.{kept-part, kept-cases}
 use Rattle.matroid_union.proofs.Chain.{holds_is, holds_same, holds_other, holds_none}
 use Rattle.matroid_union.proofs.Sizes.{has_of, length_of}
-use Rattle.std.proofs.lemmas.List.{length-replicate, get_or-replicate, get_or_past, map-id, append-nil, drop_all, take_all}
+use Rattle.std.proofs.lemmas.Option.{get_or_from_slice_get}
+use Rattle.std.proofs.lemmas.List.{length-set, get_or-set_same, get_or-set_other, length-replicate, get_or-replicate, get_or_past, map-id, append-nil, drop_all, take_all}
 
 -- what a filter of a range names
 record Named (f : ℕ → Bool) (a n e : ℕ) : Type 0 where
@@ -164,8 +166,30 @@ members_with own p i h = members_more own p i ∙ ap (λ b. members i own p ++ c
 pub members_without : (own : ℕ → Option ℕ) (p i : ℕ) → part own p i ≡ false → members (i + 1) own p ≡ members i own p
 members_without own p i h = members_more own p i ∙ ap (λ b. members i own p ++ cond b (i ∷ []) []) h ∙ append-nil (members i own p)
 
-pub rows_more : (n : ℕ) (own : ℕ → Option ℕ) (k : ℕ) → rows_of n own (k + 1) ≡ rows_of n own k ++ members n own k ∷ []
-rows_more n own k = map-range_with_len_more (members n own) 0 k k (zero-add k)
+pub length-rows : (n : ℕ) (own : ℕ → Option ℕ) (k : ℕ) → length (rows_of n own k) ≡ k
+length-rows n own k = length-map-range_with_len (members n own) 0 k
+
+-- no element looked at
+pub rows_none : (own : ℕ → Option ℕ) (k : ℕ) → replicate k [] ≡ rows_of 0 own k
+rows_none own k = fill_by_all (members 0 own) (replicate k []) k [] (length-replicate k []) (λ q l. get_or-replicate k q [] [] l)
+
+-- an element that no part has changes no row
+pub rows_same : (own : ℕ → Option ℕ) (i k : ℕ) → own i ≡ None → rows_of i own k ≡ rows_of (i + 1) own k
+rows_same own i k none = λ t. map (λ q. sym (members_without own q i (holds_none (own i) q none)) t) (range_with_len 0 k)
+
+-- an element joins its row
+pub rows_push : (own : ℕ → Option ℕ) (i k p : ℕ) (old new : List ℕ) → own i ≡ Some p → p < k → slice_get (rows_of i own k) p ≡ Some old → new ≡ old ++ i ∷ [] → set (rows_of i own k) p new ≡ rows_of (i + 1) own k
+rows_push own i k p old new is l was pushed =
+    let long : length (rows_of i own k) ≡ k = length-rows i own k in
+    let short : p < length (rows_of i own k) = rw long l in
+    let at : (q : ℕ) → q < k → get_or (rows_of i own k) q [] ≡ members i own q = λ q lq. get_or-map-range_with_len (members i own) 0 k q q [] lq (zero-add q) in
+    let old_is : old ≡ members i own p = sym (get_or_from_slice_get (rows_of i own k) p old [] was) ∙ at p l in
+    fill_by_all (members (i + 1) own) (set (rows_of i own k) p new) k [] (length-set (rows_of i own k) p new ∙ long)
+    (λ q lq. ⊎_elim
+    (λ e. ap (λ x. get_or (set (rows_of i own k) p new) x []) e ∙ get_or-set_same (rows_of i own k) p new [] short ∙ pushed ∙ ap (λ r. r ++ i ∷ []) old_is
+    ∙ sym (members_with own p i (holds_same (own i) p is)) ∙ ap (members (i + 1) own) (sym e))
+    (λ ne. get_or-set_other (rows_of i own k) p q new [] ne ∙ at q lq ∙ sym (members_without own q i (holds_other (own i) p q is (λ e. ne (sym e)))))
+    (cases_eq q p))
 
 pub none_of : (n i : ℕ) → get_or {A = Option ℕ} (replicate n None) i None ≡ None
 none_of n i =

@@ -1,14 +1,13 @@
-ghost use Rattle.std.specs.Prelude.{◌≡◌, ◌^◌, ℕ, ◌<◌, Bool, List, length, replicate, IfOk, OnOk, IfSome, None, true, false};
+ghost use Rattle.std.specs.Prelude.{◌≡◌, ◌^◌, ℕ, ◌<◌, List, length, replicate, IfOk, OnOk, IfSome, Some, None, true, false, []};
 ghost use Rattle.graph_core.specs.Side.{has};
 ghost use Rattle.matroid_union.specs.Matroid.{IsAlike};
-ghost use Rattle.matroid_union.specs.Parts.{own_of, members, rows_of, IsPacking};
+ghost use Rattle.matroid_union.specs.Parts.{own_of, rows_of, IsPacking};
 ghost use Rattle.matroid_union.specs.Search.{AreDead};
 ghost use Rattle.matroid_union.specs.Union.{IsUnion};
 
 use crate::exchange::exchange;
 use crate::greedy::take_freely;
 use crate::matroid::Matroid;
-use crate::packing::is_part;
 use crate::search::{Search, blank, find_end};
 use graph_core::{Marks, NoMemory, NumberRows, Numbers};
 use std::alloc::Global;
@@ -118,29 +117,27 @@ fn no_owners(alloc: Global, n: usize) -> Result<Vec<Option<u32>>, NoMemory>
     Ok(owner)
 }
 
-/// The elements of a part.
-fn one_row(alloc: Global, owner: &[Option<u32>], number: u32) -> Result<Numbers, NoMemory>
-    requires { length owner.now < 2 ^ 32 }
-    ensures { IfOk result (λ row. row ≡ members (length owner.now) (own_of owner.now) number) }
-{
-    let mut row = Numbers::new(alloc);
-    for i in 0..owner.len() {
-        if is_part(owner[i], number) {
-            row.push(i as u32)?;
-        }
-    }
-    Ok(row)
-}
-
 /// The elements of each part.
 fn all_rows(alloc: Global, owner: &[Option<u32>], k: u32) -> Result<NumberRows, NoMemory>
-    requires { length owner.now < 2 ^ 32 }
+    requires few { length owner.now < 2 ^ 32 }
+    requires below { (i p : ℕ) → own_of owner.now i ≡ Some p → p < k }
     ensures { IfOk result (λ rows. rows ≡ rows_of (length owner.now) (own_of owner.now) k) }
 {
+    let mut rows = empty_rows(alloc, k)?;
+    for i in 0..owner.len() {
+        if let Some(number) = owner[i] {
+            rows.item_mut(number as usize).push(i as u32)?;
+        }
+    }
+    Ok(rows)
+}
+
+fn empty_rows(alloc: Global, k: u32) -> Result<NumberRows, NoMemory>
+    ensures { IfOk result (λ rows. rows ≡ replicate k []) }
+{
     let mut rows = NumberRows::new(alloc);
-    for number in 0..k {
-        let row = one_row(alloc, owner, number)?;
-        rows.push(row)?;
+    for _ in 0..k {
+        rows.push(Numbers::new(alloc))?;
     }
     Ok(rows)
 }

@@ -1,5 +1,3 @@
-ghost use Rattle.std.specs.Prelude.{◌≡◌};
-
 use crate::{FreeParts, Matroid, union};
 use graph_core::Marks;
 use std::test::Fail;
@@ -43,9 +41,12 @@ fn parts_of_a_uniform_matroid(rt: HostRuntime) -> Result<(), Fail> {
     ] {
         let mut matroid = Uniform { size, most };
         let FreeParts { parts, reached } = union(rt.alloc(), &mut matroid, k)?;
-        let taken: usize = parts.as_slice().iter().map(|part| part.len()).sum();
+        let mut taken: usize = 0;
+        for part in parts.as_slice() {
+            taken = taken.wrapping_add(part.len());
+        }
         assert_eq!(rt; parts.len(), k as usize);
-        assert_eq!(rt; taken + left, size);
+        assert_eq!(rt; taken.wrapping_add(left), size);
         assert_eq!(rt; reached.len(), size);
     }
     Ok(())

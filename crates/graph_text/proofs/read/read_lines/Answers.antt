@@ -1,8 +1,8 @@
 use Rattle.std.proofs.Common.{◌≡◌, ◌+◌, ◌-◌, None, sym, ap, subst, ◌∙◌, length, rules, arith}
-use Rattle.graph_text.specs.Said.{line_says, End}
+use Rattle.graph_text.specs.Said.{line_says}
 use Rattle.graph_text.specs.Cause.{cause}
 use Rattle.graph_text.specs.Reading.{IsFault}
-use Rattle.graph_text.specs.Taken.{grown, CanTake, ReadsLines}
+use Rattle.graph_text.specs.Taken.{grown, ReadsLines}
 use Rattle.graph_text.proofs.TextLemmas.{CanTake-None}
 use Rattle.graph_text.proofs.ReadLemmas.{Reading, reading_first, next_line, fault_next, ended_next, reading_next, fault_end}
 use Rattle.graph_text.proofs.read.read_lines.Goals as goal

@@ -1,4 +1,4 @@
-use Rattle.std.proofs.Common.{◌≡◌, ◌≢◌, ◌<◌, ◌≤◌, ◌+◌, ℕ, length, get_or, take, Some, true, false, sym, ap, ◌∙◌, subst, arith}
+use Rattle.std.proofs.Common.{◌≡◌, ◌+◌, length, get_or, take, Some, true, false, sym, ap, ◌∙◌, subst, arith}
 use Rattle.std.proofs.lemmas.Bool.{false≢true}
 use Rattle.std.proofs.lemmas.Option.{get_or_from_slice_get}
 use Rattle.graph_core.specs.declared.graph.Line.{Line}
@@ -23,8 +23,7 @@ no_line = record { tail = 0; head = 0; fixed = false }
 
 pub returns-then-tail-head-clause-answer : goal.returns-then-tail-head-clause-answer
 returns-then-tail-head-clause-answer c =
-    let long : length c.loop-j.classes.parents.items ≡ length c.args.classes.now.parents.items = c.loop-j.invariant.roots.parents_long in
-    (
+    let long : length c.loop-j.classes.parents.items ≡ length c.args.classes.now.parents.items = c.loop-j.invariant.roots.parents_long in (
       λ h. absurd (false≢true h),
       λ whole. absurd (step_circuit (length c.args.classes.now.parents.items) c.args.set.now c.args.lines.now c.loop-j.classes.parents.items c.loop-j.j no_line c.requires.long long c.requires.fit c.loop-j-test.true c.loop-j.invariant.classes c.loop-j.invariant.forest
           c.root-tail.result c.root-head.result (rw (← long) c.root-tail.ensures.below) (rw (← long) c.root-head.ensures.below) c.root-tail.ensures.root c.root-head.ensures.root

@@ -25,9 +25,9 @@ loop-i-preserved g c =
             same = forth;
           })
       | in_default w ↦ record {
-          first = (let f = w.first-is in let o = c.loop-i.invariant.first in omega arith);
-          long = long;
-          packing = subst (λ o. IsPacking (g.M.Matroid.count c.args.matroid.now) (g.M.Matroid.free c.args.matroid.now) c.args.k (own_of o)) (sym w.owner-is) c.loop-i.invariant.packing;
-          same = forth;
-        }
+        first = (let f = w.first-is in let o = c.loop-i.invariant.first in omega arith);
+        long = long;
+        packing = subst (λ o. IsPacking (g.M.Matroid.count c.args.matroid.now) (g.M.Matroid.free c.args.matroid.now) c.args.k (own_of o)) (sym w.owner-is) c.loop-i.invariant.packing;
+        same = forth;
+      }
     ]

@@ -1,11 +1,11 @@
-use Rattle.std.proofs.Common.{◌≡◌, ◌≤◌, ◌<◌, length, count_by, sym, ap, ◌∙◌, subst, arith}
+use Rattle.std.proofs.Common.{◌≡◌, ◌≤◌, length, count_by, sym, ◌∙◌, subst, arith}
 use Rattle.graphic_matroid.specs.Labels.{unfit}
 use Rattle.graphic_matroid.proofs.RootLaws.{count_by-unfit}
 use Rattle.graphic_matroid.proofs.graphic.Graphic.new.Goals as goal
 
 pub invariant_of-result : goal.invariant_of-result
 invariant_of-result c =
-    let lines = c.in_ok-lines.ensures in
+    let lines = c.in-Ok.ensures.items ∙ c.lines.ensures in
     let few : length c.args.graph.now.lines ≤ 65536 = c.known.ensures.few in
     let nodes : length c.args.graph.now.names ≤ 4096 = c.known.ensures.nodes in
     let count = c.node_count-nodes.ensures in
