@@ -99,7 +99,11 @@ pub fn only_pair(graph: &Graph, words: WordsLeft<'_>) -> Option<(u32, u32)>
     let Some((tail, head, rest)) = two_nodes(graph, words) else {
         return None;
     };
-    if is_done(rest) { Some((tail, head)) } else { None }
+    if is_done(rest) {
+        Some((tail, head))
+    } else {
+        None
+    }
 }
 
 /// The nodes and the weight of the only three words left.
@@ -177,5 +181,9 @@ pub fn side(alloc: Global, graph: &Graph, words: WordsLeft<'_>) -> Result<Option
         side.put(v as u32, here);
         rest = behind;
     }
-    if is_done(rest) { Ok(Some(side)) } else { Ok(None) }
+    if is_done(rest) {
+        Ok(Some(side))
+    } else {
+        Ok(None)
+    }
 }

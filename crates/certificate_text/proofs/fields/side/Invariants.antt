@@ -1,4 +1,3 @@
-use Rattle.std.proofs.Common.{◌≡◌, ℕ, ◌++◌, Bool, List, length, take, drop}
 use Rattle.certificate_text.specs.WordsLeft.{words_left}
 use Rattle.certificate_text.specs.SideRead.{SideRead}
 use Rattle.certificate_text.proofs.fields.side.Given as goal
