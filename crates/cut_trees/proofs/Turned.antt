@@ -12,7 +12,7 @@ use Rattle.cut_trees.specs.declared.branch.Branch.{Branch}
 use Rattle.cut_trees.specs.Branch.{turned, turn}
 use Rattle.cut_trees.specs.Grown.{IsGrown}
 use Rattle.cut_trees.specs.Turn.{IsTurn}
-use Rattle.cut_trees.proofs.CutLaws.{degree-complement}
+use Rattle.graph_core.proofs.CutLaws.{degree-complement}
 
 differ_sym : (a b : Bool) → differ a b ≡ differ b a
 differ_sym a b = grind arith
