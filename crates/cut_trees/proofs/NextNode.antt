@@ -78,8 +78,8 @@ module _ {n s t w m : ℕ} {ls : List Line} {b : ℕ → Branch} {rep : ℕ → 
       elim (cases_eq (b j).second t) [
         | inl to ↦ rw (is j l, eq-eqb (b j).second t to, to) (sym (sorted (has X (b j).first)))
         | inr elsewhere ↦ rw (is j l, ne_eqb (b j).second t elsewhere)
-        (gathered (b j).first (b j).second (old.first_in j l) (turn.turned_to j l) (below_n (b j).second (old.second_in j l))
-        (λ k lk to. old.apart j k l lk (λ e. elsewhere (ap (λ i. (b i).second) e ∙ to))))
+            (gathered (b j).first (b j).second (old.first_in j l) (turn.turned_to j l) (below_n (b j).second (old.second_in j l))
+            (λ k lk to. old.apart j k l lk (λ e. elsewhere (ap (λ i. (b i).second) e ∙ to))))
       ]
 
   -- X separates no node from its new representative
