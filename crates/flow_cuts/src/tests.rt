@@ -1,9 +1,10 @@
 //! Small networks against a plain program that tries all sides, walks across small graphs, and a large network.
 
-ghost use Rattle.std.specs.Prelude.{◌≡◌, ◌<◌, ◌≤◌, All, IfOk, IsTrue, length};
+ghost use Rattle.std.specs.Prelude.{◌≡◌, ◌<◌, ◌≤◌, [], All, IfOk, IsTrue, length};
+ghost use Rattle.graph_core.specs.Graph.{Fits, line_of};
 
 use super::*;
-use graph_core::{NoMemory, Side};
+use graph_core::{Graph, Kind, Name, NoMemory, Pairs, Side};
 use std::alloc::{AllocError, Global};
 use std::process::Abort;
 use std::test::Fail;
@@ -242,6 +243,129 @@ fn a_large_network_ends_in_time(rt: HostRuntime) -> Result<(), Fail> {
         if (v as usize) < near.len() {
             assert_eq!(rt; near.has(v), v == 0 || (2..=362).contains(&v), "at {v}");
         }
+    }
+    Ok(())
+}
+
+/// Five nodes and no lines.
+fn nodes(alloc: Global, kind: Kind) -> Result<Graph, NoMemory>
+    ensures { IfOk result (λ graph. (length graph.names ≡ 5) × (graph.lines ≡ [])) }
+{
+    let names = [
+        Name::make(alloc, b"a")?,
+        Name::make(alloc, b"b")?,
+        Name::make(alloc, b"c")?,
+        Name::make(alloc, b"d")?,
+        Name::make(alloc, b"e")?,
+    ];
+    let names = Vec::from_array(alloc, names)?;
+    let lines = Vec::new(alloc);
+    Ok(Graph::new(kind, names, lines))
+}
+
+/// Whether each pair is of two different ones of five nodes.
+fn are_lines(pairs: &[(u32, u32)]) -> bool
+    ensures { IsTrue result → All (λ p. Fits 5 (line_of p)) pairs.now }
+{
+    pairs
+        .iter()
+        .all(|pair| pair.0 < 5 && pair.1 < 5 && pair.0 != pair.1)
+}
+
+fn graph_of(
+    rt: &impl Abort,
+    alloc: Global,
+    kind: Kind,
+    pairs: &[(u32, u32)],
+) -> Result<Graph, NoMemory>
+    ensures { IfOk result (λ graph. length graph.names ≡ 5) }
+{
+    let more = Pairs::from_vec(pairs.to_vec(alloc)?);
+    assert!(rt; pairs.len() <= 64 && are_lines(more.as_slice()));
+    nodes(alloc, kind)?.plus(alloc, &more)
+}
+
+/// The other end of a pair, where one can go along it from a node.
+fn leads(kind: Kind, pair: (u32, u32), from: u32) -> Option<u32> {
+    if pair.0 == from {
+        Some(pair.1)
+    } else if pair.1 == from && kind == Kind::Undirected {
+        Some(pair.0)
+    } else {
+        None
+    }
+}
+
+/// Follows a walk and notes the pairs that it uses, none of them a second time.
+fn follow(
+    kind: Kind,
+    pairs: &[(u32, u32)],
+    walk: &[u32],
+    from: u32,
+    used: &mut u64,
+) -> Option<u32> {
+    let mut at = from;
+    for j in walk {
+        if has(*used, *j) {
+            return None;
+        }
+        at = leads(kind, *pairs.get(*j as usize)?, at)?;
+        *used |= if *j < 64 { 1 << *j } else { 0 };
+    }
+    Some(at)
+}
+
+/// Asserts how many walks there are, that they are disjoint walks, and that so many lines leave the cut.
+fn meets(
+    rt: &impl Abort,
+    alloc: Global,
+    kind: Kind,
+    pairs: &[(u32, u32)],
+    from: u32,
+    to: u32,
+    count: u64,
+) -> Result<(), NoMemory> {
+    assert!(rt; from < 5 && to < 5 && from != to);
+    let graph = graph_of(rt, alloc, kind, pairs)?;
+    let found = most_walks(alloc, &graph, from, to)?;
+    assert_eq!(rt; found.object.len() as u64, count);
+    let mut used = 0;
+    for walk in found.object.as_slice() {
+        assert_eq!(rt;
+            follow(kind, pairs, walk.as_slice(), from, &mut used),
+            Some(to)
+        );
+    }
+    assert_eq!(rt; found.dual.len(), 5);
+    let leaving = match kind {
+        Kind::Undirected => graph.degree(&found.dual),
+        Kind::Directed => graph.leaving(&found.dual),
+    };
+    assert_eq!(rt; leaving, count);
+    Ok(())
+}
+
+#[test]
+fn walks_meet_cuts_across_small_graphs(rt: HostRuntime) -> Result<(), Fail> {
+    let square = [(0, 1), (1, 3), (0, 2), (2, 3)];
+    let crossing = [(0, 1), (1, 2), (2, 4), (0, 2), (1, 4)];
+    let opposite = [(0, 1), (1, 0), (1, 2), (2, 1), (0, 2)];
+    let parallel = [(0, 1), (0, 1), (0, 1), (1, 4), (1, 4)];
+    let cases: [(Kind, &[(u32, u32)], u32, u32, u64); 11] = [
+        (Kind::Undirected, &square, 0, 3, 2),
+        (Kind::Directed, &square, 0, 3, 2),
+        (Kind::Directed, &square, 3, 0, 0),
+        (Kind::Undirected, &crossing, 0, 4, 2),
+        (Kind::Directed, &crossing, 0, 4, 2),
+        (Kind::Undirected, &opposite, 0, 2, 3),
+        (Kind::Directed, &opposite, 0, 2, 2),
+        (Kind::Directed, &opposite, 2, 0, 1),
+        (Kind::Undirected, &parallel, 0, 1, 3),
+        (Kind::Directed, &parallel, 0, 4, 2),
+        (Kind::Undirected, &[], 0, 1, 0),
+    ];
+    for (kind, pairs, from, to, count) in cases {
+        meets(&rt, rt.alloc(), kind, pairs, from, to, count)?;
     }
     Ok(())
 }
