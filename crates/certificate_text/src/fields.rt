@@ -175,13 +175,13 @@ pub fn side(alloc: Global, graph: &Graph, words: WordsLeft<'_>) -> Result<Option
 {
     graph.known();
     let mut side = Side::empty(alloc, graph.node_count())?;
-    let mut rest = words;
+    let mut left = words;
     for v in 0..graph.node_count() {
-        let (here, behind) = after_word(graph.name(v as u32).bytes(), rest);
+        let (here, behind) = after_word(graph.name(v as u32).bytes(), left);
         side.put(v as u32, here);
-        rest = behind;
+        left = behind;
     }
-    if is_done(rest) {
+    if is_done(left) {
         Ok(Some(side))
     } else {
         Ok(None)

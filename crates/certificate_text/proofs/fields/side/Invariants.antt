@@ -3,4 +3,4 @@ use Rattle.certificate_text.specs.SideRead.{SideRead}
 use Rattle.certificate_text.proofs.fields.side.Given as goal
 
 abbrev pub invariant-loop-v : goal.invariant-loop-v
-invariant-loop-v l = SideRead l.graph.names (words_left l.fn.words) l.v l.side (words_left l.rest)
+invariant-loop-v l = SideRead l.graph.names (words_left l.fn.words) l.v l.side (words_left l.left)
