@@ -1,23 +1,23 @@
 -- The least bad line.
-use Rattle.std.proofs.Common.{◌≡◌, ℕ, zero, suc, ◌+◌, ◌<◌, ◌≤◌, Bool, true, false, List, [], ◌∷◌, ◌++◌, map, length, take, drop, refl, sym, ap, subst, ◌∙◌, append_assoc, append-nil, inl, inr, ◌⊎◌, length-append, arith}
-use Rattle.std.proofs.lemmas.List.{length-map, map-append, take_at, take-append-le, take-append-drop, append_cancel_left}
+use Rattle.std.proofs.Common.{◌≡◌, ℕ, ◌+◌, ◌≤◌, List, [], ◌∷◌, ◌++◌, map, length, take, drop, refl, sym, ap, subst, ◌∙◌, append_assoc, append-nil, length-append, arith}
+use Rattle.std.proofs.lemmas.List.{length-map, map-append, take-append-le, take-append-drop}
 use Rattle.std.proofs.Math.Seq.{take-append-add}
 use Rattle.graph_core.specs.Graph.{GraphValue, IsGraph}
 use Rattle.problem_defs.specs.declared.cert.Cert.{Cert}
 use Rattle.certificate_text.specs.declared.line.CertLine.{CertLine}
 use Rattle.certificate_text.specs.declared.line.CertLine.TheVariants as line
 use Rattle.certificate_text.specs.Words.{spelled}
-use Rattle.certificate_text.specs.Valid.{IsValid, ValidAll}
+use Rattle.certificate_text.specs.Valid.{ValidAll}
 use Rattle.certificate_text.specs.Lines.{lines}
 use Rattle.problem_defs.specs.Shaped.{IsShaped}
-use Rattle.certificate_text.specs.Allowed.{IsAllowed, BeginsLines, NoEnd}
-use Rattle.certificate_text.specs.Text.{unlines, byte_lines, text}
+use Rattle.certificate_text.specs.Allowed.{BeginsLines, NoEnd}
+use Rattle.certificate_text.specs.Text.{byte_lines}
 use Rattle.certificate_text.specs.BadLine.{Begins, whole_lines, IsBad}
 use Rattle.certificate_text.specs.Reading.{HasRead, MayNotCome, Stops}
 use Rattle.certificate_text.proofs.FormLaws.{valid-split}
 use Rattle.certificate_text.proofs.ValidLaws.{valid-lines}
 use Rattle.certificate_text.proofs.BeginLaws.{allowed-begins, begins-allowed}
-use Rattle.certificate_text.proofs.TextLaws.{Compared, compare, whole-text, ends-lines, no_end-at}
+use Rattle.certificate_text.proofs.TextLaws.{compare, whole-text, ends-lines, no_end-at}
 use Rattle.certificate_text.proofs.TextLaws.Compared.{front, longer}
 
 -- a line that a certificate has next may come

@@ -1,5 +1,5 @@
 -- Lines are allowed just where they begin a certificate.
-use Rattle.std.proofs.Common.{◌≡◌, ℕ, zero, suc, ◌+◌, ◌<◌, ◌≤◌, ◌^◌, ◌==◌, ◌&&◌, ◌||◌, Bool, true, false, cond, List, [], ◌∷◌, ◌++◌, map, length, get_or, refl, sym, ap, subst, ◌∙◌, append_assoc, inl, inr, Option, None, Some, All, eq-eqb, arith}
+use Rattle.std.proofs.Common.{◌≡◌, ℕ, zero, suc, ◌+◌, ◌<◌, ◌≤◌, ◌^◌, ◌==◌, ◌&&◌, ◌||◌, Bool, true, false, cond, List, [], ◌∷◌, ◌++◌, length, get_or, refl, sym, ap, subst, ◌∙◌, inl, inr, Option, None, Some, All, eq-eqb, arith}
 use Rattle.std.specs.Prelude.{replicate}
 use Rattle.std.specs.Option.{option_and_then}
 use Rattle.graph_core.specs.Graph.{GraphValue, IsGraph, Fits as LineFits}
@@ -8,7 +8,6 @@ use Rattle.graph_core.specs.declared.graph.Kind.TheVariants.{Undirected, Directe
 use Rattle.problem_defs.specs.Ask.{misfit_of, KIsInRange}
 use Rattle.problem_defs.specs.declared.ask.Ask.{Ask}
 use Rattle.problem_defs.specs.declared.ask.Ask.TheVariants as ask
-use Rattle.problem_defs.specs.declared.cert.Body.{Body}
 use Rattle.problem_defs.specs.declared.cert.Cert.{Cert}
 use Rattle.certificate_text.specs.declared.line.CertLine.{CertLine}
 use Rattle.certificate_text.specs.declared.line.CertLine.TheVariants as line
@@ -20,14 +19,29 @@ use Rattle.certificate_text.specs.declared.row.Slot.{Slot}
 use Rattle.certificate_text.specs.declared.row.Slot.TheVariants.{Must, May}
 use Rattle.certificate_text.specs.Machine.{musts, slots, Fits, step, run}
 use Rattle.certificate_text.specs.Valid.{IsValid, ValidAll}
-use Rattle.certificate_text.specs.Fits.{fits, joins, no_line, sample}
+use Rattle.certificate_text.specs.Fits.{fits, no_line}
 use Rattle.certificate_text.specs.Lines.{lines, body_lines}
 use Rattle.problem_defs.specs.Shaped.{IsShaped}
 use Rattle.certificate_text.specs.Accepts.{SomeRow, Accepts}
 use Rattle.certificate_text.specs.Allowed.{GoesOn, IsAllowed, BeginsLines}
-use Rattle.certificate_text.proofs.MachineLaws.{run-append, fill, CanFill, completed, run-can_fill}
+use Rattle.certificate_text.proofs.MachineLaws.{run-append, fill, CanFill, completed}
 use Rattle.certificate_text.proofs.FormLaws.{valid-join, kind-is}
 use Rattle.certificate_text.proofs.RowLaws.{has-body, accepted}
+
+-- a line of the form
+abbrev sample : GraphValue → Form → ℕ → CertLine
+sample g form.Value place = line.Value 0
+sample g form.Impossible place = line.Impossible
+sample g form.Path place = line.Path []
+sample g form.Part place = line.Part []
+sample g form.Join place = line.Join []
+sample g form.Tree place = line.Tree 0 0 0
+sample g form.Edge place = line.Edge 0 0
+sample g form.Arc place = line.Arc 0 0
+sample g form.Turned place = let l = get_or g.lines place no_line in line.Arc l.tail l.head
+sample g (form.Dual k) place = line.Dual k
+sample g form.Set place = line.Set (replicate (length g.names) false)
+sample g form.End place = line.End
 
 -- what is left of a row is an end of it
 step-tail : (P : List Slot → Type 0) (fits : Fits) → ((s : Slot) (left : List Slot) → P (s ∷ left) → P left) → (left next : List Slot) (x : CertLine) → P left → step fits left x ≡ Some next → P next

@@ -1,6 +1,5 @@
 -- The body is read off its lines.
-use Rattle.std.proofs.Common.{◌≡◌, ◌≢◌, ℕ, zero, suc, ◌+◌, ◌<◌, ◌==◌, Bool, true, false, cond, List, [], ◌∷◌, ◌++◌, map, length, refl, sym, ap, subst, ◌∙◌, append_assoc, append-nil, All, eq-eqb, arith}
-use Rattle.std.proofs.lemmas.Bool.{eqb-true}
+use Rattle.std.proofs.Common.{◌≡◌, ◌≢◌, ℕ, ◌==◌, Bool, true, false, cond, List, [], ◌∷◌, ◌++◌, map, length, refl, sym, ap, ◌∙◌, append_assoc, append-nil, All, eq-eqb, arith}
 use Rattle.std.proofs.lemmas.Bool.Decides.{nat_tests}
 use Rattle.std.proofs.lemmas.List.Elements.{All-head, All-tail}
 use Rattle.graph_core.specs.Graph.{GraphValue, IsGraph, Fits}
@@ -15,11 +14,10 @@ use Rattle.problem_defs.specs.declared.cert.Cert.{Cert}
 use Rattle.problem_defs.specs.declared.cert.Way.TheVariants.{Entering, Leaving}
 use Rattle.certificate_text.specs.declared.line.CertLine.{CertLine}
 use Rattle.certificate_text.specs.declared.line.CertLine.TheVariants as line
-use Rattle.certificate_text.specs.declared.line.DualKind.{DualKind}
 use Rattle.certificate_text.specs.declared.line.DualKind.TheVariants as kind
 use Rattle.certificate_text.specs.declared.gather.Content.{Content}
 use Rattle.certificate_text.specs.Table.{augment_kind}
-use Rattle.certificate_text.specs.Lines.{body_lines, lines, turned_line, turned_lines, set_lines, way_kind}
+use Rattle.certificate_text.specs.Lines.{body_lines, lines, turned_lines, set_lines}
 use Rattle.problem_defs.specs.Shaped.{IsShaped}
 use Rattle.certificate_text.specs.Gather.{nothing, grown, gather, heads_of, body_of}
 

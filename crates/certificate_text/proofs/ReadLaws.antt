@@ -1,5 +1,5 @@
 -- The steps of the reader.
-use Rattle.std.proofs.Common.{◌≡◌, ℕ, zero, suc, ◌+◌, Bool, true, false, List, [], ◌∷◌, ◌++◌, map, length, refl, sym, ap, subst, ◌∙◌, append_assoc, append-nil, inl, inr, ◌⊎◌, Option, None, Some, length-append, true≢false, arith}
+use Rattle.std.proofs.Common.{◌≡◌, ℕ, ◌+◌, Bool, true, false, List, [], ◌∷◌, ◌++◌, map, length, refl, sym, ap, subst, ◌∙◌, append_assoc, append-nil, inl, inr, ◌⊎◌, Option, None, Some, length-append, arith}
 use Rattle.std.specs.Option.{option_and_then}
 use Rattle.std.proofs.lemmas.List.{map-append}
 use Rattle.std.proofs.lemmas.Grind.{flat_map-append}
@@ -15,16 +15,15 @@ use Rattle.certificate_text.specs.declared.gather.Content.{Content}
 use Rattle.certificate_text.specs.Table.{rows}
 use Rattle.certificate_text.specs.Machine.{slots, Fits, step, run}
 use Rattle.certificate_text.specs.Words.{spelled}
-use Rattle.certificate_text.specs.Valid.{IsValid, ValidAll}
+use Rattle.certificate_text.specs.Valid.{IsValid}
 use Rattle.certificate_text.specs.Fits.{fits}
-use Rattle.certificate_text.specs.Lines.{lines, body_lines}
-use Rattle.problem_defs.specs.Shaped.{IsShaped}
+use Rattle.certificate_text.specs.Lines.{body_lines}
 use Rattle.certificate_text.specs.Accepts.{SomeRow, Accepts}
-use Rattle.certificate_text.specs.Allowed.{GoesOn, IsAllowed, is_end, NoEnd}
+use Rattle.certificate_text.specs.Allowed.{GoesOn, is_end, NoEnd}
 use Rattle.certificate_text.specs.Text.{unlines, text}
 use Rattle.certificate_text.specs.BadLine.{whole_lines, IsBad}
 use Rattle.certificate_text.specs.Gather.{nothing, grown, gather, body_of}
-use Rattle.certificate_text.specs.Reading.{HasRead, MayNotCome, Stops}
+use Rattle.certificate_text.specs.Reading.{MayNotCome, Stops}
 use Rattle.certificate_text.specs.Loop.{AreRows, option_list, Reading}
 use Rattle.certificate_text.specs.Front.{IsAtFront}
 use Rattle.certificate_text.proofs.MachineLaws.{run-append}

@@ -1,5 +1,5 @@
 -- What a row takes is the lines of a body, and the lines of a body are taken by a row.
-use Rattle.std.proofs.Common.{◌≡◌, ℕ, zero, suc, ◌+◌, ◌<◌, ◌^◌, ◌==◌, Bool, true, false, List, [], ◌∷◌, ◌++◌, map, length, drop, refl, sym, ap, subst, ◌∙◌, inl, inr, Some, All, arith}
+use Rattle.std.proofs.Common.{◌≡◌, ℕ, ◌<◌, ◌^◌, Bool, true, false, List, [], ◌∷◌, ◌++◌, map, length, refl, sym, ap, subst, ◌∙◌, inl, inr, Some, All}
 use Rattle.graph_core.specs.Graph.{GraphValue}
 use Rattle.problem_defs.specs.Shaped.{Belongs, IsInRange}
 use Rattle.problem_defs.specs.declared.ask.Ask.{Ask}
@@ -19,9 +19,8 @@ use Rattle.certificate_text.specs.declared.row.Slot.{Slot}
 use Rattle.certificate_text.specs.declared.row.Slot.TheVariants.{Must, May}
 use Rattle.certificate_text.specs.Machine.{musts, run}
 use Rattle.certificate_text.specs.Valid.{IsValid, ValidAll}
-use Rattle.certificate_text.specs.Fits.{fits, no_line}
+use Rattle.certificate_text.specs.Fits.{fits}
 use Rattle.certificate_text.specs.Lines.{body_lines, turned_lines, set_lines}
-use Rattle.problem_defs.specs.Shaped.{NumbersFit}
 use Rattle.certificate_text.specs.Accepts.{Accepts, HasBody}
 use Rattle.certificate_text.proofs.MachineLaws.{musts-run, musts-parts, must-run}
 use Rattle.certificate_text.proofs.FormLaws.{one, several, nothing-left, pass, value-made, impossible-made, path-made, part-made, join-made, tree-made, edge-made, arc-made, set-made, end-made, dual-made, kind-is, valid-split, MadeBy}

@@ -1,6 +1,6 @@
 -- Two lines that may stand in a certificate of one graph and are spelled alike are one.
-use Rattle.std.proofs.Common.{◌≡◌, ◌≢◌, ℕ, zero, suc, ◌+◌, ◌<◌, ◌≤◌, ◌^◌, ◌==◌, ◌&&◌, ◌||◌, nat_le, Bool, true, false, cond, List, [], ◌∷◌, ◌++◌, map, length, get_or, refl, sym, ap, subst, ◌∙◌, inl, inr, All, None, Some, Option, true≢false, eq-eqb, arith}
-use Rattle.std.specs.Prelude.{codes, AllPairs}
+use Rattle.std.proofs.Common.{◌≡◌, ◌≢◌, ℕ, suc, ◌+◌, ◌<◌, ◌≤◌, ◌==◌, ◌&&◌, ◌||◌, nat_le, Bool, true, false, cond, List, [], ◌∷◌, length, get_or, refl, sym, ap, ◌∙◌, inl, inr, All, None, Some, Option, true≢false, eq-eqb, arith}
+use Rattle.std.specs.Prelude.{AllPairs}
 use Rattle.std.specs.List.{list_all, slice_split, join_with_byte}
 use Rattle.std.specs.Fmt.{decimal}
 use Rattle.std.proofs.lemmas.Fmt.{decimal_injective}
@@ -9,10 +9,9 @@ use Rattle.std.proofs.lemmas.Bool.Decides.{nat_tests}
 use Rattle.std.proofs.lemmas.List.Elements.{All-head, All-tail}
 use Rattle.graph_core.specs.Graph.{GraphValue, IsGraph}
 use Rattle.graph_core.specs.Name.{IsName}
-use Rattle.problem_defs.specs.Ask.{misfit_of, KIsInRange, has_wrong_kind, lacks_node}
+use Rattle.problem_defs.specs.Ask.{misfit_of, KIsInRange, has_wrong_kind}
 use Rattle.problem_defs.specs.declared.ask.Ask.{Ask}
 use Rattle.problem_defs.specs.declared.ask.Ask.TheVariants as ask
-use Rattle.problem_defs.specs.declared.ask.Misfit.{Misfit}
 use Rattle.certificate_text.specs.declared.line.CertLine.{CertLine}
 use Rattle.certificate_text.specs.declared.line.CertLine.TheVariants as line
 use Rattle.certificate_text.specs.declared.line.DualKind.{DualKind}

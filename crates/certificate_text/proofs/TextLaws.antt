@@ -1,7 +1,6 @@
 -- Texts as bytes: one certificate at the front, and the least bad line.
-use Rattle.std.proofs.Common.{◌≡◌, ℕ, zero, suc, ◌+◌, ◌<◌, ◌≤◌, Bool, true, false, List, [], ◌∷◌, ◌++◌, map, length, take, drop, refl, sym, ap, subst, ◌∙◌, append_assoc, append-nil, inl, inr, ◌⊎◌, true≢false, length-append, arith}
-use Rattle.std.proofs.lemmas.List.{length-map, map-append, take_at, take-append-le, append_cancel_left}
-use Rattle.std.specs.Prelude.{codes}
+use Rattle.std.proofs.Common.{◌≡◌, ℕ, Bool, true, false, List, [], ◌∷◌, ◌++◌, map, length, refl, sym, ap, ◌∙◌, append_assoc, append-nil, true≢false}
+use Rattle.std.proofs.lemmas.List.{append_cancel_left}
 use Rattle.graph_core.specs.Graph.{GraphValue, IsGraph}
 use Rattle.problem_defs.specs.declared.ask.Ask.{Ask}
 use Rattle.problem_defs.specs.declared.cert.Body.{Body}
@@ -14,19 +13,17 @@ use Rattle.certificate_text.specs.declared.line.CertLine.{CertLine}
 use Rattle.certificate_text.specs.declared.line.CertLine.TheVariants as line
 use Rattle.certificate_text.specs.declared.line.DualKind.TheVariants as kind
 use Rattle.certificate_text.specs.Words.{spelled}
-use Rattle.certificate_text.specs.Valid.{IsValid, ValidAll}
+use Rattle.certificate_text.specs.Valid.{ValidAll}
 use Rattle.certificate_text.specs.Lines.{body_lines, lines, turned_lines, set_lines, parts_lines, way_kind, edges_kind, never_kind}
 use Rattle.problem_defs.specs.Shaped.{IsShaped}
-use Rattle.certificate_text.specs.Allowed.{IsAllowed, BeginsLines, is_end, NoEnd}
+use Rattle.certificate_text.specs.Allowed.{is_end, NoEnd}
 use Rattle.certificate_text.specs.Front.{IsAtFront}
-use Rattle.certificate_text.specs.Text.{unlines, byte_lines, text}
-use Rattle.certificate_text.specs.BadLine.{Begins, whole_lines, IsBad}
-use Rattle.certificate_text.proofs.FormLaws.{valid-split}
+use Rattle.certificate_text.specs.Text.{unlines, text}
+use Rattle.certificate_text.specs.BadLine.{whole_lines}
 use Rattle.certificate_text.proofs.WordLaws.{NoFeeds, whole-unlines}
 use Rattle.certificate_text.proofs.SpellLaws.{spelled-same, spelled-no_feed}
 use Rattle.certificate_text.proofs.GatherLaws.{lines-same}
 use Rattle.certificate_text.proofs.ValidLaws.{valid-lines}
-use Rattle.certificate_text.proofs.BeginLaws.{allowed-begins, begins-allowed}
 
 -- ---- the last line alone is the end
 

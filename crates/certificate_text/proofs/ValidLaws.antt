@@ -1,20 +1,18 @@
 -- The lines of a certificate are valid, and its last alone is `end`.
-use Rattle.std.proofs.Common.{◌≡◌, ℕ, zero, suc, ◌+◌, ◌<◌, ◌^◌, Bool, true, false, not, ◌&&◌, List, [], ◌∷◌, ◌++◌, map, length, refl, sym, ap, subst, ◌∙◌, All, arith}
-use Rattle.std.specs.List.{list_all}
+use Rattle.std.proofs.Common.{◌≡◌, ℕ, Bool, true, false, List, [], ◌∷◌, ◌++◌, map, length, All}
 use Rattle.std.proofs.lemmas.List.Elements.{All-head, All-tail}
 use Rattle.graph_core.specs.Graph.{GraphValue, IsGraph, Fits}
 use Rattle.graph_core.specs.declared.graph.Line.{Line}
-use Rattle.problem_defs.specs.Shaped.{Belongs, IsInRange, DualIsInRange}
+use Rattle.problem_defs.specs.Shaped.{IsInRange, DualIsInRange}
 use Rattle.problem_defs.specs.declared.ask.Ask.{Ask}
 use Rattle.problem_defs.specs.declared.cert.Body.{Body}
 use Rattle.problem_defs.specs.declared.cert.Body.TheVariants as body
 use Rattle.problem_defs.specs.declared.cert.PartsDual.{PartsDual}
 use Rattle.problem_defs.specs.declared.cert.PartsDual.TheVariants as parts
 use Rattle.problem_defs.specs.declared.cert.Cert.{Cert}
-use Rattle.certificate_text.specs.declared.line.CertLine.{CertLine}
 use Rattle.certificate_text.specs.declared.line.CertLine.TheVariants as line
-use Rattle.certificate_text.specs.Valid.{IsValid, ValidAll}
-use Rattle.certificate_text.specs.Lines.{body_lines, lines, turned_line, turned_lines, set_lines, parts_lines, way_kind, edges_kind, never_kind}
+use Rattle.certificate_text.specs.Valid.{ValidAll}
+use Rattle.certificate_text.specs.Lines.{body_lines, lines, turned_lines, set_lines, parts_lines}
 use Rattle.problem_defs.specs.Shaped.{NumbersFit, IsShaped}
 use Rattle.certificate_text.proofs.FormLaws.{valid-map, valid-join}
 

@@ -1,5 +1,5 @@
 -- Lines that a row of the table takes.
-use Rattle.std.specs.Prelude.{◌≡◌, ℕ, ◌⊎◌, List, [], ◌∷◌, length, Some}
+use Rattle.std.specs.Prelude.{◌≡◌, ◌⊎◌, List, [], ◌∷◌, length, Some}
 use Rattle.graph_core.specs.Graph.{GraphValue}
 use Rattle.problem_defs.specs.Shaped.{Belongs, IsInRange}
 use Rattle.problem_defs.specs.declared.ask.Ask.{Ask}
@@ -7,9 +7,7 @@ use Rattle.problem_defs.specs.declared.cert.Body.{Body}
 use Rattle.certificate_text.specs.declared.line.CertLine.{CertLine}
 use Rattle.certificate_text.specs.declared.row.Piece.{Piece}
 use Rattle.certificate_text.specs.Table.{rows}
-use Rattle.certificate_text.specs.declared.row.Slot.{Slot}
 use Rattle.certificate_text.specs.Machine.{slots, run}
-use Rattle.certificate_text.specs.Valid.{IsValid}
 use Rattle.certificate_text.specs.Fits.{fits}
 use Rattle.certificate_text.specs.Lines.{body_lines}
 use Rattle.problem_defs.specs.Shaped.{NumbersFit}

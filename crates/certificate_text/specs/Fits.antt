@@ -1,5 +1,5 @@
 -- Which lines have a form.
-use Rattle.std.specs.Prelude.{ℕ, ◌==◌, ◌&&◌, ◌||◌, Bool, true, false, [], length, replicate, slice_index_or}
+use Rattle.std.specs.Prelude.{ℕ, ◌==◌, ◌&&◌, ◌||◌, Bool, true, false, slice_index_or}
 use Rattle.graph_core.specs.Graph.{GraphValue}
 use Rattle.graph_core.specs.declared.graph.Line.{Line}
 use Rattle.certificate_text.specs.declared.line.CertLine.{CertLine}
@@ -42,18 +42,3 @@ fits g (form.Dual k) place (line.Dual other) = kind_number k == kind_number othe
 fits g form.Set place (line.Set X) = true
 fits g form.End place line.End = true
 fits g f place x = false
-
--- a line of the form
-abbrev pub sample : GraphValue → Form → ℕ → CertLine
-sample g form.Value place = line.Value 0
-sample g form.Impossible place = line.Impossible
-sample g form.Path place = line.Path []
-sample g form.Part place = line.Part []
-sample g form.Join place = line.Join []
-sample g form.Tree place = line.Tree 0 0 0
-sample g form.Edge place = line.Edge 0 0
-sample g form.Arc place = line.Arc 0 0
-sample g form.Turned place = let l = slice_index_or g.lines place no_line in line.Arc l.tail l.head
-sample g (form.Dual k) place = line.Dual k
-sample g form.Set place = line.Set (replicate (length g.names) false)
-sample g form.End place = line.End

@@ -1,5 +1,5 @@
 -- The lines of a certificate.
-use Rattle.std.specs.Prelude.{ℕ, Bool, true, false, List, [], ◌∷◌, ◌++◌, map}
+use Rattle.std.specs.Prelude.{Bool, true, false, List, [], ◌∷◌, ◌++◌, map}
 use Rattle.graph_core.specs.Graph.{GraphValue}
 use Rattle.graph_core.specs.declared.graph.Line.{Line}
 use Rattle.problem_defs.specs.declared.ask.Ask.{Ask}

@@ -1,9 +1,8 @@
 -- What a reader keeps from line to line.
-use Rattle.std.specs.Prelude.{◌≡◌, ℕ, ◌+◌, List, [], ◌∷◌, ◌++◌, map, length, Option, Some, None}
+use Rattle.std.specs.Prelude.{◌≡◌, ℕ, ◌+◌, List, [], ◌∷◌, map, length, Option, Some, None}
 use Rattle.std.specs.Option.{option_and_then}
 use Rattle.graph_core.specs.Graph.{GraphValue}
 use Rattle.problem_defs.specs.declared.ask.Ask.{Ask}
-use Rattle.problem_defs.specs.declared.cert.Cert.{Cert}
 use Rattle.certificate_text.specs.declared.line.CertLine.{CertLine}
 use Rattle.certificate_text.specs.declared.line.CertLine.TheVariants as line
 use Rattle.certificate_text.specs.declared.row.Slot.{Slot}
@@ -11,8 +10,6 @@ use Rattle.certificate_text.specs.declared.gather.Content.{Content}
 use Rattle.certificate_text.specs.Table.{rows}
 use Rattle.certificate_text.specs.Machine.{slots, run}
 use Rattle.certificate_text.specs.Fits.{fits}
-use Rattle.problem_defs.specs.Shaped.{IsShaped}
-use Rattle.certificate_text.specs.Text.{text}
 use Rattle.certificate_text.specs.Gather.{nothing, gather}
 use Rattle.certificate_text.specs.Reading.{HasRead}
 

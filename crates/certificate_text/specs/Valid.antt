@@ -1,5 +1,5 @@
 -- What a line of a certificate may hold: what is named is there, and numbers fit 64 bits.
-use Rattle.std.specs.Prelude.{◌≡◌, ℕ, ◌<◌, ◌^◌, List, [], ◌∷◌, length, All, None}
+use Rattle.std.specs.Prelude.{◌≡◌, ◌<◌, ◌^◌, List, [], ◌∷◌, length, All, None}
 use Rattle.graph_core.specs.Graph.{GraphValue}
 use Rattle.problem_defs.specs.Ask.{misfit_of, KIsInRange}
 use Rattle.certificate_text.specs.declared.line.CertLine.{CertLine}

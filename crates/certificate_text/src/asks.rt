@@ -43,14 +43,38 @@ fn ask_of_verb(graph: &Graph, verb: Verb, words: WordsLeft<'_>) -> Option<Ask>
 {
     match verb {
         Verb::Flow => flow_of(graph, words),
-        Verb::CutTree => { if is_done(words) { Some(Ask::CutTree) } else { None } }
+        Verb::CutTree => {
+            if is_done(words) {
+                Some(Ask::CutTree)
+            } else {
+                None
+            }
+        }
         Verb::Augment => only_k(words).map(|k| Ask::Augment { k }),
         Verb::AugmentArcs => only_k(words).map(|k| Ask::AugmentArcs { k }),
         Verb::Arborescences => only_node(graph, words).map(|root| Ask::Arborescences { root }),
-        Verb::Trees => { if is_done(words) { Some(Ask::Trees) } else { None } }
-        Verb::Forests => { if is_done(words) { Some(Ask::Forests) } else { None } }
+        Verb::Trees => {
+            if is_done(words) {
+                Some(Ask::Trees)
+            } else {
+                None
+            }
+        }
+        Verb::Forests => {
+            if is_done(words) {
+                Some(Ask::Forests)
+            } else {
+                None
+            }
+        }
         Verb::Orient => only_k(words).map(|k| Ask::Orient { k }),
-        Verb::Dijoin => { if is_done(words) { Some(Ask::Dijoin) } else { None } }
+        Verb::Dijoin => {
+            if is_done(words) {
+                Some(Ask::Dijoin)
+            } else {
+                None
+            }
+        }
     }
 }
 

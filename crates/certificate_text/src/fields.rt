@@ -99,7 +99,11 @@ pub fn only_pair(graph: &Graph, words: WordsLeft<'_>) -> Option<(u32, u32)>
     let Some((tail, head, rest)) = two_nodes(graph, words) else {
         return None;
     };
-    if is_done(rest) { Some((tail, head)) } else { None }
+    if is_done(rest) {
+        Some((tail, head))
+    } else {
+        None
+    }
 }
 
 /// The nodes and the weight of the only three words left.
@@ -171,11 +175,15 @@ pub fn side(alloc: Global, graph: &Graph, words: WordsLeft<'_>) -> Result<Option
 {
     graph.known();
     let mut side = Side::empty(alloc, graph.node_count())?;
-    let mut rest = words;
+    let mut left = words;
     for v in 0..graph.node_count() {
-        let (here, behind) = after_word(graph.name(v as u32).bytes(), rest);
+        let (here, behind) = after_word(graph.name(v as u32).bytes(), left);
         side.put(v as u32, here);
-        rest = behind;
+        left = behind;
     }
-    if is_done(rest) { Ok(Some(side)) } else { Ok(None) }
+    if is_done(left) {
+        Ok(Some(side))
+    } else {
+        Ok(None)
+    }
 }

@@ -14,20 +14,24 @@ ghost use Rattle.certificate_text.specs.Refusal.{IsRefused};
 
 use crate::body::make_body;
 use crate::gather::{empty_content, take};
-use crate::read_line::read_line;
+use crate::line::CertLine;
 use crate::place::{Place, is_done, is_lost, next_place};
+use crate::read_line::read_line;
+use crate::row::Slot;
 use crate::tables::{first_row, second_row, slots};
 use crate::text_lines::whole_line;
-use crate::line::CertLine;
-use crate::row::Slot;
 use graph_core::{Graph, NoMemory};
 use problem_defs::{Ask, Cert};
 use std::alloc::Global;
+use thiserror::Error;
 
 /// Why no certificate was read.
-#[derive(Clone, Copy, Debug, PartialEq, Eq)]
+#[derive(Clone, Copy, Debug, PartialEq, Eq, Error)]
 pub enum CertRefusal {
+    /// The least number of first lines that begin no certificate text; where every whole line begins one, one more than there are.
+    #[error("line {line} is no line of a certificate")]
     Bad { line: usize },
+    #[error("memory ran out")]
     NoMemory,
 }
 

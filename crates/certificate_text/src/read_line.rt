@@ -47,10 +47,18 @@ fn line_of_keyword(
 {
     let m = graph.line_count();
     match keyword {
-        Keyword::Certificate => Ok(if is_one(words) { Some(CertLine::Title) } else { None }),
+        Keyword::Certificate => Ok(if is_one(words) {
+            Some(CertLine::Title)
+        } else {
+            None
+        }),
         Keyword::Command => Ok(ask_of(graph, words).map(|ask| CertLine::Command(ask))),
         Keyword::Value => Ok(only_number(words).map(|n| CertLine::Value(n))),
-        Keyword::Impossible => Ok(if is_done(words) { Some(CertLine::Impossible) } else { None }),
+        Keyword::Impossible => Ok(if is_done(words) {
+            Some(CertLine::Impossible)
+        } else {
+            None
+        }),
         Keyword::Path => Ok(numbers(alloc, m, words)?.map(|js| CertLine::Path(js))),
         Keyword::Part => Ok(numbers(alloc, m, words)?.map(|js| CertLine::Part(js))),
         Keyword::Join => Ok(numbers(alloc, m, words)?.map(|js| CertLine::Join(js))),
@@ -59,7 +67,11 @@ fn line_of_keyword(
         Keyword::Arc => Ok(arc_line(graph, words)),
         Keyword::Dual => Ok(only_kind(words).map(|kind| CertLine::Dual(kind))),
         Keyword::Set => Ok(side(alloc, graph, words)?.map(|side| CertLine::Set(side))),
-        Keyword::End => Ok(if is_done(words) { Some(CertLine::End) } else { None }),
+        Keyword::End => Ok(if is_done(words) {
+            Some(CertLine::End)
+        } else {
+            None
+        }),
     }
 }
 

@@ -8,7 +8,9 @@ ghost use Rattle.certificate_text.specs.Lines.{turned_line, turned_lines};
 ghost use Rattle.certificate_text.specs.declared.line.CertLine.TheVariants as line;
 
 use crate::line::DualKind;
-use graph_core::{Graph, Heads, Line, NoMemory, NumberRows, Numbers, Pairs, Side, Sides, WeightedPairs};
+use graph_core::{
+    Graph, Heads, Line, NoMemory, NumberRows, Numbers, Pairs, Side, Sides, WeightedPairs,
+};
 use itoa::Buffer;
 
 pub fn push_text(text: &mut Vec<u8>, part: &[u8]) -> Result<(), NoMemory>
@@ -70,7 +72,13 @@ pub fn push_rows(text: &mut Vec<u8>, word: &[u8], rows: &NumberRows) -> Result<(
 }
 
 /// A line of a word and of two names.
-pub fn push_pair_line(text: &mut Vec<u8>, graph: &Graph, word: &[u8], tail: u32, head: u32) -> Result<(), NoMemory>
+pub fn push_pair_line(
+    text: &mut Vec<u8>,
+    graph: &Graph,
+    word: &[u8],
+    tail: u32,
+    head: u32,
+) -> Result<(), NoMemory>
     requires tail { tail < length graph.now.names }
     requires head { head < length graph.now.names }
     ensures { OnOk result (text.new.items ≡ text.old.items ++ words_of.pair_line graph.now word.now (tail, head)) }
@@ -82,7 +90,12 @@ pub fn push_pair_line(text: &mut Vec<u8>, graph: &Graph, word: &[u8], tail: u32,
 }
 
 /// A line of the word for each pair.
-pub fn push_pairs(text: &mut Vec<u8>, graph: &Graph, word: &[u8], pairs: &Pairs) -> Result<(), NoMemory>
+pub fn push_pairs(
+    text: &mut Vec<u8>,
+    graph: &Graph,
+    word: &[u8],
+    pairs: &Pairs,
+) -> Result<(), NoMemory>
     requires { All (λ p. (p.0 < length graph.now.names) × (p.1 < length graph.now.names)) pairs.now }
     ensures { OnOk result (text.new.items ≡ text.old.items ++ flat_map (words_of.pair_line graph.now word.now) pairs.now) }
 {
@@ -93,7 +106,13 @@ pub fn push_pairs(text: &mut Vec<u8>, graph: &Graph, word: &[u8], pairs: &Pairs)
     Ok(())
 }
 
-fn push_tree_line(text: &mut Vec<u8>, graph: &Graph, tail: u32, head: u32, weight: u64) -> Result<(), NoMemory>
+fn push_tree_line(
+    text: &mut Vec<u8>,
+    graph: &Graph,
+    tail: u32,
+    head: u32,
+    weight: u64,
+) -> Result<(), NoMemory>
     requires tail { tail < length graph.now.names }
     requires head { head < length graph.now.names }
     ensures { OnOk result (text.new.items ≡ text.old.items ++ line_text graph.now (line.Tree tail head weight)) }

@@ -9,10 +9,12 @@ use Rattle.problem_defs.specs.declared.ask.Ask.TheVariants as ask
 -- a further command joins by its line, and so does its ask
 abbrev pub is_built : Command → Bool
 is_built command.Flow = true
+is_built command.CutTree = true
 is_built other = false
 
 abbrev pub is_solved : Ask → Bool
 is_solved (ask.Flow s t) = true
+is_solved ask.CutTree = true
 is_solved other = false
 
 -- the words write this command, and it is built

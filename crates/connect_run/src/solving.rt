@@ -4,6 +4,7 @@ ghost use Rattle.problem_defs.specs.Ask.{misfit_of, KIsInRange};
 ghost use Rattle.problem_defs.specs.Meets.{Meets};
 ghost use Rattle.connect_run.specs.Built.{is_solved};
 
+mod cut_tree;
 mod flow;
 
 use graph_core::{Graph, NoMemory};
@@ -21,6 +22,7 @@ pub fn solve(alloc: Global, graph: &Graph, ask: &Ask) -> Result<Cert, NoMemory>
 {
     match *ask {
         Ask::Flow { from, to } => flow::solve_flow(alloc, graph, from, to),
+        Ask::CutTree => cut_tree::solve_cut_tree(alloc, graph),
         _ => unreachable!("the ask is built"),
     }
 }

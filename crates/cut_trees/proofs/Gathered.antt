@@ -5,12 +5,12 @@ use Rattle.std.proofs.lemmas.Bool.{cases_eq, and_left, and_right, or_left, or_fr
 use Rattle.std.proofs.lemmas.Simd.{length-zip2}
 use Rattle.graph_core.specs.Side.{has, meet, join, minus}
 use Rattle.graph_core.specs.Lines.{differ}
-use Rattle.graph_core.proofs.SideLaws.{has-zip2}
+use Rattle.graph_core.proofs.SideLaws.{has-zip2, has-minus}
 use Rattle.graph_core.specs.declared.graph.Line.{Line}
 use Rattle.cut_trees.specs.declared.branch.Branch.{Branch}
 use Rattle.cut_trees.specs.Grown.{IsGrown, IsLeastSide}
 use Rattle.cut_trees.specs.Turn.{IsTurn, Follows}
-use Rattle.cut_trees.proofs.CutLaws.{has-minus, degree_meets, degree_parts}
+use Rattle.graph_core.proofs.CutLaws.{degree_meets, degree_parts}
 use Rattle.cut_trees.proofs.StoredSides.{together, misses_t, misses_first, disjoint}
 
 module _ {n s t w m : ℕ} {ls : List Line} {b : ℕ → Branch} {rep : ℕ → ℕ} {X : List Bool} (turn : IsTurn n s t ls m b rep) (cut : IsLeastSide n ls s t w X) where

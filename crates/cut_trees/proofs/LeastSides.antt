@@ -9,7 +9,7 @@ use Rattle.graph_core.specs.Graph.{Fits}
 use Rattle.graph_core.proofs.SideLaws.{has-complement}
 use Rattle.graph_core.specs.declared.graph.Line.{Line}
 use Rattle.cut_trees.specs.Grown.{IsLeastSide}
-use Rattle.cut_trees.proofs.CutLaws.{degree-complement}
+use Rattle.graph_core.proofs.CutLaws.{degree-complement}
 
 other_end : (a b : Bool) → differ a b ≡ true → b ≡ not a
 other_end a b h = grind arith

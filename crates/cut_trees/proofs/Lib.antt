@@ -1,5 +1,4 @@
 pub mod Branches
-pub mod CutLaws
 pub mod Gathered
 pub mod LeastSides
 pub mod NextNode

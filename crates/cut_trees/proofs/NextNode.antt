@@ -1,4 +1,4 @@
--- After a turn the tree has grown to one node more.
+-- The tree begins with node 0 alone, and after a turn it has grown to one node more.
 use Rattle.std.specs.Prelude.{ℕ, ◌≡◌, ◌≢◌, ◌==◌, ◌+◌, ◌<◌, ◌≤◌, Bool, true, false, cond, ◌&&◌, List, length, refl}
 use Rattle.std.proofs.Common.{sym, ap, ◌∙◌, arith, inl, inr, below_more}
 use Rattle.std.proofs.lemmas.Bool.{cases_Bool, cases_eq, eqb-true, eq-eqb, ne_eqb, and_left, and_right, and_parts, cond-false}
@@ -11,6 +11,24 @@ use Rattle.cut_trees.specs.Grown.{IsGrown, IsLeastSide}
 use Rattle.cut_trees.specs.Turn.{IsTurn, Follows}
 use Rattle.cut_trees.proofs.LeastSides.{least_either}
 use Rattle.cut_trees.proofs.StoredSides.{t_in, t_below, together, covered}
+
+pub grown_first : (n : ℕ) (ls : List Line) (b : ℕ → Branch) (rep : ℕ → ℕ) → 1 ≤ n → ((x : ℕ) → x < n → rep x ≡ 0) → IsGrown n 1 ls 0 b rep
+grown_first n ls b rep some zeros = record {
+  many = omega arith;
+  below = some;
+  long = λ j l. absurd (omega arith);
+  first_in = λ j l. absurd (omega arith);
+  second_in = λ j l. absurd (omega arith);
+  inside = λ j l. absurd (omega arith);
+  outside = λ j l. absurd (omega arith);
+  apart = λ i j li lj other. absurd (omega arith);
+  value = λ j l. absurd (omega arith);
+  least = λ j l. absurd (omega arith);
+  rep_in = λ x l. omega (arith, zeros x l);
+  rep_self = λ x l. omega (arith, zeros x (omega arith));
+  kept = λ j x l. absurd (omega arith);
+  joined = λ q h p l. let first : p ≡ 0 = omega arith in ap q first;
+}
 
 cond_same : (f : Bool) (s t r : ℕ) (q : ℕ → Bool) → (f ≡ true → r ≡ t) → q s ≡ q t → q (cond f s r) ≡ q r
 cond_same true s t r q to e = e ∙ ap q (sym (to refl))
@@ -60,8 +78,8 @@ module _ {n s t w m : ℕ} {ls : List Line} {b : ℕ → Branch} {rep : ℕ → 
       elim (cases_eq (b j).second t) [
         | inl to ↦ rw (is j l, eq-eqb (b j).second t to, to) (sym (sorted (has X (b j).first)))
         | inr elsewhere ↦ rw (is j l, ne_eqb (b j).second t elsewhere)
-        (gathered (b j).first (b j).second (old.first_in j l) (turn.turned_to j l) (below_n (b j).second (old.second_in j l))
-        (λ k lk to. old.apart j k l lk (λ e. elsewhere (ap (λ i. (b i).second) e ∙ to))))
+            (gathered (b j).first (b j).second (old.first_in j l) (turn.turned_to j l) (below_n (b j).second (old.second_in j l))
+            (λ k lk to. old.apart j k l lk (λ e. elsewhere (ap (λ i. (b i).second) e ∙ to))))
       ]
 
   -- X separates no node from its new representative

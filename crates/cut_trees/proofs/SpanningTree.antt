@@ -8,7 +8,7 @@ use Rattle.std.proofs.lemmas.Simd.{length-zip2}
 use Rattle.graph_core.specs.Side.{has, size, meet, minus}
 use Rattle.graph_core.specs.Lines.{differ, crosses, within, degree, induced}
 use Rattle.graph_core.specs.Graph.{GraphValue, Fits}
-use Rattle.graph_core.proofs.SideLaws.{has-zip2}
+use Rattle.graph_core.proofs.SideLaws.{has-zip2, has-minus}
 use Rattle.graph_core.proofs.Counting.{weight, sum_by-add, sum_by-agree}
 use Rattle.graph_core.proofs.FamilyLaws.{size-nonempty, count_by-map}
 use Rattle.graph_core.specs.declared.graph.Line.{Line}
@@ -16,7 +16,6 @@ use Rattle.problem_defs.specs.CutTree.{IsLeastCut, IsCutTree}
 use Rattle.cut_trees.specs.declared.branch.Branch.{Branch}
 use Rattle.cut_trees.specs.Branch.{no_branch, at, pair_of}
 use Rattle.cut_trees.specs.Grown.{IsGrown}
-use Rattle.cut_trees.proofs.CutLaws.{has-minus}
 use Rattle.cut_trees.proofs.Branches.{line_at, tree_lines-branches, All-branches}
 
 split_within : (a b c d : Bool) → c ≡ d → weight (a && b) ≡ weight ((a && c) && (b && d)) + weight ((a && not c) && (b && not d))

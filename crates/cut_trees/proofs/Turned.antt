@@ -12,7 +12,7 @@ use Rattle.cut_trees.specs.declared.branch.Branch.{Branch}
 use Rattle.cut_trees.specs.Branch.{turned, turn}
 use Rattle.cut_trees.specs.Grown.{IsGrown}
 use Rattle.cut_trees.specs.Turn.{IsTurn}
-use Rattle.cut_trees.proofs.CutLaws.{degree-complement}
+use Rattle.graph_core.proofs.CutLaws.{degree-complement}
 
 differ_sym : (a b : Bool) → differ a b ≡ differ b a
 differ_sym a b = grind arith
@@ -68,7 +68,7 @@ module _ {n s m : ℕ} {ls : List Line} {b : ℕ → Branch} {rep : ℕ → ℕ}
         rep_self = st.rep_self;
         kept = λ j x l k. rw (is j l) (turned_both (flip j) j (rep x) x l (below_n (rep x) (st.rep_in x k)) k (st.kept j x l k));
         joined = λ q h. st.joined q (λ j l.
-        (elim (flip j) as (λ f. q (turned f (b j)).first ≡ q (turned f (b j)).second → q (b j).first ≡ q (b j).second) [ true ↦ sym | false ↦ (λ e. e) ]) (rw (is j l) at (h j l)));
+            (elim (flip j) as (λ f. q (turned f (b j)).first ≡ q (turned f (b j)).second → q (b j).first ≡ q (b j).second) [ true ↦ sym | false ↦ (λ e. e) ]) (rw (is j l) at (h j l)));
       }
 
 -- a branch with two nodes, turned where its first is t, doesn't begin at t

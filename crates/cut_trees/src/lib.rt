@@ -6,3 +6,6 @@ mod node_cuts;
 mod tree;
 
 pub use tree::cut_tree;
+
+#[cfg(test)]
+mod tests;

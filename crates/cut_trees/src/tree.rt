@@ -82,9 +82,7 @@ fn grow(
         weight,
         side,
     };
-    if branches.push(branch).is_err() {
-        return Err(NoMemory);
-    }
+    branches.push(branch)?;
     Ok(())
 }
 
@@ -107,10 +105,8 @@ pub fn cut_tree(alloc: Global, graph: &Graph) -> Result<WeightedPairs, NoMemory>
     graph.known();
     let n = graph.node_count();
     let mut cuts = NodeCuts::new(alloc, graph)?;
-    let Ok(mut reps) = vec![in alloc; 0u32; n] else {
-        return Err(NoMemory);
-    };
-    let mut branches = Vec::new(alloc);
+    let mut reps = vec![in alloc; 0u32; n]?;
+    let mut branches = Vec::with_capacity(alloc, n)?;
     for s in 1..n as u32 {
         grow(alloc, &mut cuts, &mut branches, &mut reps, s)?;
     }

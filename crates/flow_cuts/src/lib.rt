@@ -10,6 +10,8 @@ mod network;
 mod residual;
 mod search;
 mod sides;
+#[cfg(test)]
+mod tests;
 mod walks;
 
 pub use certified::most_walks;

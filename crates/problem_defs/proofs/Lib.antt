@@ -1,3 +1,4 @@
 pub mod Suited
 pub mod BestLaw
 pub mod FlowCert
+pub mod TreeCert

@@ -1,9 +1,14 @@
 pub mod Ask
 pub mod Best
+pub mod Ceil
 pub mod Certified
 pub mod CutTree
 pub mod Duality
 pub mod Flow
 pub mod FlowLaw
+pub mod Forests
+pub mod ForestsLaw
 pub mod Meets
 pub mod Shaped
+pub mod Trees
+pub mod TreesLaw

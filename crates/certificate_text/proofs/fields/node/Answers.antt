@@ -1,4 +1,4 @@
-use Rattle.std.proofs.Common.{◌≡◌, [], get_or, sym, ◌∙◌, below_more, rules}
+use Rattle.std.proofs.Common.{◌≡◌, [], sym, ◌∙◌, below_more, rules}
 use Rattle.std.proofs.lemmas.Option.{get_or_from_slice_get}
 use Rattle.certificate_text.specs.Words as words_of
 use Rattle.certificate_text.proofs.fields.node.Goals as goal

@@ -1,4 +1,4 @@
-use Rattle.std.proofs.Common.{◌∷◌, ◌++◌, sym, ap, ◌∙◌}
+use Rattle.std.proofs.Common.{◌++◌, ap, ◌∙◌}
 use Rattle.certificate_text.specs.Words as words_of
 use Rattle.certificate_text.specs.WordsLeft.{words_left}
 use Rattle.certificate_text.proofs.FieldLaws.{numbers-lack}

@@ -1,7 +1,6 @@
-use Rattle.std.proofs.Common.{◌≡◌, ◌++◌, ◌∷◌, [], None, Some, Option, rules}
-use Rattle.certificate_text.specs.declared.line.CertLine.TheVariants.{Title, Command}
+use Rattle.std.proofs.Common.{◌≡◌, ◌++◌, ◌∷◌, [], Some, rules}
+use Rattle.certificate_text.specs.declared.line.CertLine.TheVariants.{Title}
 use Rattle.certificate_text.specs.BadLine.{whole_lines}
-use Rattle.certificate_text.specs.Reading.{HasRead}
 use Rattle.certificate_text.proofs.FrontLaws.{bad-empty, bad-title, read-title, bad-one, bad-command, read-command}
 use Rattle.certificate_text.proofs.read.read_cert.Goals as goal
 

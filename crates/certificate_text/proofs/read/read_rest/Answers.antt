@@ -1,4 +1,4 @@
-use Rattle.std.proofs.Common.{◌≡◌, ◌+◌, ◌-◌, ◌≤◌, ◌++◌, ◌∷◌, ◌⊎◌, [], None, Some, length, length-append, refl, sym, ap, subst, ◌∙◌, inl, inr, arith, rules}
+use Rattle.std.proofs.Common.{◌≡◌, ◌+◌, ◌-◌, ◌≤◌, ◌++◌, ◌∷◌, ◌⊎◌, [], None, Some, length, length-append, sym, ap, subst, ◌∙◌, inl, inr, arith, rules}
 use Rattle.std.specs.Option.{option_and_then}
 use Rattle.problem_defs.specs.declared.cert.Body.{Body}
 use Rattle.certificate_text.specs.declared.line.CertLine.{CertLine}

@@ -1,9 +1,8 @@
-use Rattle.std.proofs.Common.{◌≡◌, ◌++◌, ◌∷◌, [], List, Bool, ℕ, sym, ap, subst, ◌∙◌}
+use Rattle.std.proofs.Common.{◌≡◌, ◌++◌, ◌∷◌, [], List, ℕ, sym, ap, subst, ◌∙◌}
 use Rattle.std.specs.Prelude.{OnOk, map}
 use Rattle.std.proofs.lemmas.Result.{on_ok_weaker}
 use Rattle.problem_defs.specs.declared.cert.Body.{Body}
 use Rattle.problem_defs.specs.declared.cert.Body.TheVariants as body
-use Rattle.certificate_text.specs.declared.line.CertLine.{CertLine}
 use Rattle.certificate_text.specs.declared.line.CertLine.TheVariants as line
 use Rattle.certificate_text.specs.declared.line.DualKind.{DualKind}
 use Rattle.certificate_text.specs.declared.line.DualKind.TheVariants as kind

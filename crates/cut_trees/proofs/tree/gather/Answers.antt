@@ -22,7 +22,7 @@ loop-branch-preserved c =
       | then-branch-t+then-has v ↦
           let to : (at bs i).second ≡ c.args.t = ap (λ b. b.second) (sym item) ∙ v.if-branch-t.true in
           let in_x : has X (at bs i).first ≡ true = ap (λ b. has X b.first) (sym item) ∙ sym v.has.ensures ∙ v.if-has.true in
-          let made : c.if-branch-t.side ≡ join X (at bs i).side = v.side-is ∙ v.join.ensures ∙ ap (λ b. join X b.side) item in
+          let made : c.if-branch-t.side ≡ join X (at bs i).side = v.side-is ∙ v.join.ensures.union ∙ ap (λ b. join X b.side) item in
           record {
             long = ap length made ∙ length-zip2 ◌||◌ X (at bs i).side same ∙ c.loop-branch.invariant.long;
             gathered = λ n s w ls rep turn cut.
@@ -32,7 +32,7 @@ loop-branch-preserved c =
       | then-branch-t+else-has v ↦
           let to : (at bs i).second ≡ c.args.t = ap (λ b. b.second) (sym item) ∙ v.if-branch-t.true in
           let out_x : has X (at bs i).first ≡ false = ap (λ b. has X b.first) (sym item) ∙ sym v.has.ensures ∙ v.if-has.false in
-          let made : c.if-branch-t.side ≡ minus X (at bs i).side = v.side-is ∙ v.minus.ensures ∙ ap (λ b. minus X b.side) item in
+          let made : c.if-branch-t.side ≡ minus X (at bs i).side = v.side-is ∙ v.minus.ensures.difference ∙ ap (λ b. minus X b.side) item in
           record {
             long = ap length made ∙ length-zip2 (λ x y. x && not y) X (at bs i).side same ∙ c.loop-branch.invariant.long;
             gathered = λ n s w ls rep turn cut.
