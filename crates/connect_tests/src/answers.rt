@@ -5,7 +5,7 @@ const SQUARE: &[u8] =
     b"graph undirected\nnode a\nnode b\nnode c\nnode d\nedge a b\nedge b d\nedge a c\nedge c d\nend\n";
 
 // Words, input, the whole text and the exit number.
-const WHOLE: [(&str, &[u8], &[u8], u8); 26] = [
+const WHOLE: [(&str, &[u8], &[u8], u8); 28] = [
     // No word goes on; the source isn't read.
     ("", b"", b"words 1\n", 3),
     ("flow a", b"", b"words 3\n", 3),
@@ -14,7 +14,7 @@ const WHOLE: [(&str, &[u8], &[u8], u8); 26] = [
     ("augment 02", b"", b"words 2\n", 3),
     ("trial flow 40 x", b"", b"words 4\n", 3),
     // Commands that aren't built.
-    ("cuttree", b"", b"words 1\n", 3),
+    ("trees", b"", b"words 1\n", 3),
     ("trial flow 40 7", b"", b"words 1\n", 3),
     // The first fault of the graph text.
     ("flow a b", b"", b"graph 1 header\n", 4),
@@ -71,6 +71,19 @@ const WHOLE: [(&str, &[u8], &[u8], u8); 26] = [
     ("flow a a", SQUARE, b"unsuited same\n", 6),
     ("flow a q", SQUARE, b"unsuited node\n", 6),
     ("flow q q", SQUARE, b"unsuited node\n", 6),
+    (
+        "cuttree",
+        b"graph directed\nnode a\nend\n",
+        b"unsuited kind\n",
+        6,
+    ),
+    // One node is a cut tree with no pair.
+    (
+        "cuttree",
+        b"graph undirected\nnode a\nend\n",
+        b"certificate 1\ncommand cuttree\nend\n",
+        0,
+    ),
     // Graphs of two nodes have one cut, so their answers are the only ones.
     (
         "flow a b",
