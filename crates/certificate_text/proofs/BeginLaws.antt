@@ -1,0 +1,217 @@
+-- Lines are allowed just where they begin a certificate.
+use Rattle.std.proofs.Common.{◌≡◌, ℕ, zero, suc, ◌+◌, ◌<◌, ◌≤◌, ◌^◌, ◌==◌, ◌&&◌, ◌||◌, Bool, true, false, cond, List, [], ◌∷◌, ◌++◌, map, length, get_or, refl, sym, ap, subst, ◌∙◌, append_assoc, inl, inr, Option, None, Some, All, eq-eqb, arith}
+use Rattle.std.specs.Prelude.{replicate}
+use Rattle.std.specs.Option.{option_and_then}
+use Rattle.graph_core.specs.Graph.{GraphValue, IsGraph, Fits as LineFits}
+use Rattle.graph_core.specs.declared.graph.Kind.{Kind}
+use Rattle.graph_core.specs.declared.graph.Kind.TheVariants.{Undirected, Directed}
+use Rattle.problem_defs.specs.Ask.{misfit_of, KIsInRange}
+use Rattle.problem_defs.specs.declared.ask.Ask.{Ask}
+use Rattle.problem_defs.specs.declared.ask.Ask.TheVariants as ask
+use Rattle.problem_defs.specs.declared.cert.Body.{Body}
+use Rattle.problem_defs.specs.declared.cert.Cert.{Cert}
+use Rattle.certificate_text.specs.declared.line.CertLine.{CertLine}
+use Rattle.certificate_text.specs.declared.line.CertLine.TheVariants as line
+use Rattle.certificate_text.specs.declared.row.Form.{Form}
+use Rattle.certificate_text.specs.declared.row.Form.TheVariants as form
+use Rattle.certificate_text.specs.declared.row.Piece.{Piece}
+use Rattle.certificate_text.specs.Table.{rows, augment_kind}
+use Rattle.certificate_text.specs.declared.row.Slot.{Slot}
+use Rattle.certificate_text.specs.declared.row.Slot.TheVariants.{Must, May}
+use Rattle.certificate_text.specs.Machine.{musts, slots, Fits, step, run}
+use Rattle.certificate_text.specs.Valid.{IsValid, ValidAll}
+use Rattle.certificate_text.specs.Fits.{fits, joins, no_line, sample}
+use Rattle.certificate_text.specs.Lines.{lines, body_lines}
+use Rattle.problem_defs.specs.Shaped.{IsShaped}
+use Rattle.certificate_text.specs.Accepts.{SomeRow, Accepts}
+use Rattle.certificate_text.specs.Allowed.{GoesOn, IsAllowed, BeginsLines}
+use Rattle.certificate_text.proofs.MachineLaws.{run-append, fill, CanFill, completed, run-can_fill}
+use Rattle.certificate_text.proofs.FormLaws.{valid-join, kind-is}
+use Rattle.certificate_text.proofs.RowLaws.{has-body, accepted}
+
+-- what is left of a row is an end of it
+step-tail : (P : List Slot → Type 0) (fits : Fits) → ((s : Slot) (left : List Slot) → P (s ∷ left) → P left) → (left next : List Slot) (x : CertLine) → P left → step fits left x ≡ Some next → P next
+step-tail P fits tails [] next x p e = cc
+step-tail P fits tails (Must f place ∷ left) next x p e = must (fits f place x) e
+  where
+    must : (b : Bool) → cond b (Some left) None ≡ Some next → P next
+    must true e = let same : left ≡ next = cc in subst P same (tails (Must f place) left p)
+    must false e = cc
+step-tail P fits tails (May f ∷ left) next x p e = may (λ h. step-tail P fits tails left next x (tails (May f) left p) h) (fits f 0 x) e
+  where
+    may : (step fits left x ≡ Some next → P next) → (b : Bool) → cond b (Some (May f ∷ left)) (step fits left x) ≡ Some next → P next
+    may again true e = let same : May f ∷ left ≡ next = cc in subst P same p
+    may again false e = again e
+
+pub run-tail : (P : List Slot → Type 0) (fits : Fits) → ((s : Slot) (left : List Slot) → P (s ∷ left) → P left) → (left after : List Slot) (xs : List CertLine) → P left → run fits left xs ≡ Some after → P after
+run-tail P fits tails left after [] p e = let same : left ≡ after = cc in subst P same p
+run-tail P fits tails left after (x ∷ xs) p e = by (λ next q h. run-tail P fits tails next after xs q h) (λ next h. step-tail P fits tails left next x p h) (step fits left x) refl e
+  where
+    by : ((next : List Slot) → P next → run fits next xs ≡ Some after → P after) → ((next : List Slot) → step fits left x ≡ Some next → P next) → (o : Option (List Slot)) → step fits left x ≡ o → option_and_then (λ s. run fits s xs) o ≡ Some after → P after
+    by again one None t e = cc
+    by again one (Some next) t e = again next (one next t) e
+
+-- a row that can be completed at each place
+pub record Fillable (g : GraphValue) (left : List Slot) : Type 0 where
+  pub can : CanFill (fits g) (sample g) left
+  pub valid : ValidAll g (fill (sample g) left)
+
+fill-tail : (g : GraphValue) (s : Slot) (left : List Slot) → ValidAll g (fill (sample g) (s ∷ left)) → ValidAll g (fill (sample g) left)
+fill-tail g (Must f place) left v = v.1
+fill-tail g (May f) left v = v
+
+abbrev EachRow : (List Piece → Type 0) → List (List Piece) → Type 0
+EachRow P [] = Unit {0}
+EachRow P (row ∷ rows) = P row × EachRow P rows
+
+pub record Completed (g : GraphValue) (rows : List (List Piece)) (xs : List CertLine) : Type 0 where
+  pub more : List CertLine
+  pub valid : ValidAll g more
+  pub takes : SomeRow (λ row. run (fits g) (slots (length g.lines) row) (xs ++ more) ≡ Some []) rows
+
+complete-rows : (g : GraphValue) (rows : List (List Piece)) (xs : List CertLine) → EachRow (λ row. Fillable g (slots (length g.lines) row)) rows
+    → SomeRow (λ row. (left : List Slot) × (run (fits g) (slots (length g.lines) row) xs ≡ Some left)) rows → Completed g rows xs
+complete-rows g [] xs each some = absurd some
+complete-rows g (row ∷ rows) xs each (inl (left, e)) =
+    let here = each.0 in
+    record {
+      more = fill (sample g) left;
+      valid = run-tail (λ s. ValidAll g (fill (sample g) s)) (fits g) (fill-tail g) (slots (length g.lines) row) left xs here.valid e;
+      takes = inl (completed (fits g) (sample g) (slots (length g.lines) row) left xs here.can e);
+    }
+complete-rows g (row ∷ rows) xs each (inr some) =
+    let c = complete-rows g rows xs each.1 some in
+    record { more = c.more; valid = c.valid; takes = inr c.takes }
+
+-- ---- each row of the table
+
+empty_long : (n : ℕ) → length (replicate n false) ≡ n
+empty_long zero = refl
+empty_long (suc n) = ap suc (empty_long n)
+
+zero_fits : 0 < 2 ^ 64
+zero_fits = omega arith
+
+or-left : (a b : Bool) → a ≡ true → (a || b) ≡ true
+or-left a b e = λ i. e i || b
+
+turned_can : (g : GraphValue) (place more : ℕ) (left : List Slot) → CanFill (fits g) (sample g) left → CanFill (fits g) (sample g) (musts form.Turned place more ++ left)
+turned_can g place zero left can = can
+turned_can g place (suc more) left can =
+    let l = get_or g.lines place no_line in
+    (or-left ((l.tail == l.tail) && (l.head == l.head)) _ (λ i. eq-eqb l.tail l.tail refl i && eq-eqb l.head l.head refl i), turned_can g (suc place) more left can)
+
+turned_valid : (g : GraphValue) (place more : ℕ) (left : List Slot) → All (LineFits (length g.names)) g.lines → place + more ≤ length g.lines → ValidAll g (fill (sample g) left) → ValidAll g (fill (sample g) (musts form.Turned place more ++ left))
+turned_valid g place zero left fit within valid = valid
+turned_valid g place (suc more) left fit within valid =
+    let here = fit place no_line (omega (arith, within)) in
+    ((here.tail, here.head), turned_valid g (suc place) more left fit (omega (arith, within)) valid)
+
+fillable : (g : GraphValue) (x : Ask) → IsGraph g → EachRow (λ row. Fillable g (slots (length g.lines) row)) (rows x)
+fillable g (ask.Flow s t) is = (record { can = (refl, (refl, (refl, (refl, (refl, tt))))); valid = (zero_fits, (tt, (empty_long _, (tt, tt)))) }, tt)
+fillable g ask.CutTree is = (record { can = (refl, (refl, tt)); valid = (tt, tt) }, tt)
+fillable g (ask.Augment k) is = (record { can = (refl, (refl, (kind-is (augment_kind k), (refl, (refl, tt))))); valid = (zero_fits, (tt, (tt, tt))) }, tt)
+fillable g (ask.AugmentArcs k) is = (
+  record { can = (refl, (refl, (refl, (refl, (refl, tt))))); valid = (zero_fits, (tt, (tt, tt))) },
+  (record { can = (refl, (refl, (refl, (refl, (refl, tt))))); valid = (zero_fits, (tt, (tt, tt))) }, tt),
+)
+fillable g (ask.Arborescences r) is = (record { can = (refl, (refl, (refl, (refl, (refl, tt))))); valid = (zero_fits, (tt, (empty_long _, (tt, tt)))) }, tt)
+fillable g ask.Trees is = (record { can = (refl, (refl, (refl, (refl, (refl, tt))))); valid = (zero_fits, (tt, (tt, tt))) }, tt)
+fillable g ask.Forests is = (
+  record { can = (refl, (refl, (refl, (refl, (refl, tt))))); valid = (zero_fits, (tt, (empty_long _, (tt, tt)))) },
+  (record { can = (refl, (refl, (refl, (refl, tt)))); valid = (zero_fits, (tt, (tt, tt))) }, tt),
+)
+fillable g (ask.Orient k) is = (
+  record {
+    can = turned_can g 0 (length g.lines) (Must form.End 0 ∷ []) (refl, tt);
+    valid = turned_valid g 0 (length g.lines) (Must form.End 0 ∷ []) is.ends (omega arith) (tt, tt);
+  },
+  (record { can = (refl, (refl, (refl, (refl, tt)))); valid = (tt, (tt, (empty_long _, (tt, tt)))) }, tt),
+)
+fillable g ask.Dijoin is = (
+  record { can = (refl, (refl, (refl, (refl, (refl, tt))))); valid = (zero_fits, ((λ k d l. absurd (omega (arith, l))), (tt, (tt, tt)))) },
+  (record { can = (refl, (refl, (refl, (refl, tt)))); valid = (tt, (tt, (empty_long _, (tt, tt)))) }, tt),
+)
+
+-- ---- an ask for each graph
+
+pub record Suited (g : GraphValue) : Type 0 where
+  pub ask : Ask
+  pub k : KIsInRange ask
+  pub suits : misfit_of g ask ≡ None
+
+undirected_suits : (g : GraphValue) → g.kind ≡ Undirected → misfit_of g (ask.Augment 1) ≡ None
+undirected_suits g e = ap (λ k. misfit_of (record g { kind = k }) (ask.Augment 1)) e
+
+directed_suits : (g : GraphValue) → g.kind ≡ Directed → misfit_of g (ask.AugmentArcs 1) ≡ None
+directed_suits g e = ap (λ k. misfit_of (record g { kind = k }) (ask.AugmentArcs 1)) e
+
+some-ask : (g : GraphValue) → Suited g
+some-ask g = by g.kind refl
+  where
+    by : (kind : Kind) → g.kind ≡ kind → Suited g
+    by Undirected e = record { ask = ask.Augment 1; k = (omega arith, omega arith); suits = undirected_suits g e }
+    by Directed e = record { ask = ask.AugmentArcs 1; k = (omega arith, omega arith); suits = directed_suits g e }
+
+-- ---- the two directions
+
+-- a row of each ask takes no line at first
+pub some-row : (g : GraphValue) (x : Ask) → GoesOn g x []
+some-row g (ask.Flow s t) = inl (_, refl)
+some-row g ask.CutTree = inl (_, refl)
+some-row g (ask.Augment k) = inl (_, refl)
+some-row g (ask.AugmentArcs k) = inl (_, refl)
+some-row g (ask.Arborescences r) = inl (_, refl)
+some-row g ask.Trees = inl (_, refl)
+some-row g ask.Forests = inl (_, refl)
+some-row g (ask.Orient k) = inl (_, refl)
+some-row g ask.Dijoin = inl (_, refl)
+
+begins-rest : (g : GraphValue) (x : Ask) (zs : List CertLine) → IsGraph g → KIsInRange x → misfit_of g x ≡ None → ValidAll g zs → GoesOn g x zs → BeginsLines g (line.Title ∷ line.Command x ∷ zs)
+begins-rest g x zs is k suits valid goes_on =
+    let c = complete-rows g (rows x) zs (fillable g x is) goes_on in
+    let b = has-body g x (zs ++ c.more) (valid-join g zs c.more valid c.valid) c.takes in
+    record {
+      cert = record { ask = x; body = b.body };
+      shaped = record { k = k; suits = suits; belongs = b.belongs; in_range = b.in_range; numbers_fit = b.numbers_fit };
+      more = c.more;
+      is = ap (λ l. line.Title ∷ line.Command x ∷ l) b.lines_are;
+    }
+
+pub allowed-begins : (g : GraphValue) (xs : List CertLine) → IsGraph g → ValidAll g xs → IsAllowed g xs → BeginsLines g xs
+allowed-begins g [] is valid allowed =
+    let s = some-ask g in
+    let b = begins-rest g s.ask [] is s.k s.suits tt (some-row g s.ask) in
+    record { cert = b.cert; shaped = b.shaped; more = line.Title ∷ line.Command s.ask ∷ b.more; is = b.is }
+allowed-begins g (x ∷ []) is valid allowed =
+    let s = some-ask g in
+    let b = begins-rest g s.ask [] is s.k s.suits tt (some-row g s.ask) in
+    record { cert = b.cert; shaped = b.shaped; more = line.Command s.ask ∷ b.more; is = b.is ∙ ap (λ t. t ∷ line.Command s.ask ∷ b.more) (sym allowed) }
+allowed-begins g (x ∷ y ∷ zs) is valid allowed =
+    let (title, (a, command, goes_on)) = allowed in
+    let ok = subst (IsValid g) command valid.1.0 in
+    let b = begins-rest g a zs is ok.0 ok.1 valid.1.1 goes_on in
+    record { cert = b.cert; shaped = b.shaped; more = b.more; is = b.is ∙ (λ i. sym title i ∷ sym command i ∷ (zs ++ b.more)) }
+
+front-runs : (fits : Fits) (left : List Slot) (xs more : List CertLine) → run fits left (xs ++ more) ≡ Some [] → (after : List Slot) × (run fits left xs ≡ Some after)
+front-runs fits left xs more e = by (run fits left xs) refl (sym (run-append fits left xs more) ∙ e)
+  where
+    by : (o : Option (List Slot)) → run fits left xs ≡ o → option_and_then (λ s. run fits s more) o ≡ Some [] → (after : List Slot) × (run fits left xs ≡ Some after)
+    by None t e = cc
+    by (Some after) t e = (after, t)
+
+front-goes_on : (g : GraphValue) (rows : List (List Piece)) (xs more : List CertLine) → SomeRow (λ row. run (fits g) (slots (length g.lines) row) (xs ++ more) ≡ Some []) rows
+    → SomeRow (λ row. (left : List Slot) × (run (fits g) (slots (length g.lines) row) xs ≡ Some left)) rows
+front-goes_on g [] xs more some = absurd some
+front-goes_on g (row ∷ rows) xs more (inl e) = inl (front-runs (fits g) (slots (length g.lines) row) xs more e)
+front-goes_on g (row ∷ rows) xs more (inr some) = inr (front-goes_on g rows xs more some)
+
+pub begins-allowed : (g : GraphValue) (xs more : List CertLine) (cert : Cert) → IsShaped g cert → lines g cert ≡ xs ++ more → IsAllowed g xs
+begins-allowed g [] more cert w e = tt
+begins-allowed g (x ∷ []) more cert w e = cc
+begins-allowed g (x ∷ y ∷ zs) more cert w e =
+    let title : x ≡ line.Title = cc in
+    let command : y ≡ line.Command cert.ask = cc in
+    let rest : body_lines g cert.ask cert.body ≡ zs ++ more = cc in
+    let takes = accepted g cert.ask cert.body w.belongs w.in_range in
+    (title, (cert.ask, command, front-goes_on g (rows cert.ask) zs more (subst (Accepts g cert.ask) rest takes)))

@@ -1,0 +1,93 @@
+-- What was written, line by line.
+use Rattle.std.proofs.Common.{◌≡◌, ℕ, zero, suc, ◌+◌, ◌<◌, Bool, true, false, cond, List, [], ◌∷◌, ◌++◌, map, length, take, get_or, refl, sym, ap, ◌∙◌, append_assoc, append-nil, add-one, Some, arith}
+use Rattle.std.specs.Prelude.{slice_get, codes}
+use Rattle.std.specs.Fmt.{decimal}
+use Rattle.std.specs.List.{flat_map, join_with_byte}
+use Rattle.std.proofs.lemmas.List.{take_more, map-append, flat_map_more}
+use Rattle.std.proofs.lemmas.List.Folds.{flat_map-map}
+use Rattle.std.proofs.lemmas.Option.{get_or_from_slice_get}
+use Rattle.std.proofs.lemmas.Grind.{flat_map-append}
+use Rattle.graph_core.specs.Graph.{GraphValue}
+use Rattle.graph_core.specs.declared.graph.Line.{Line}
+use Rattle.certificate_text.specs.declared.line.CertLine.{CertLine}
+use Rattle.certificate_text.specs.declared.line.CertLine.TheVariants as line
+use Rattle.certificate_text.specs.declared.line.DualKind.{DualKind}
+use Rattle.certificate_text.specs.Words.{spelled, names_in, name_of, member_name, kind_word, word_line}
+use Rattle.certificate_text.specs.Lines.{turned_line, turned_lines, set_lines}
+use Rattle.certificate_text.specs.Text.{line_text, spelling}
+use Rattle.certificate_text.proofs.CodeLaws.{join-more}
+
+-- one more item of a list was written
+pub item-more : {X : Type 0} (f : X → List ℕ) (all : List X) (at : ℕ) (x : X) (old now new : List ℕ) → at < length all → slice_get all at ≡ Some x → now ≡ old ++ flat_map f (take at all) → new ≡ now ++ f x → new ≡ old ++ flat_map f (take (at + 1) all)
+item-more f all at x old now new l here before e =
+    let more = take_more all at x l ∙ ap (λ y. take at all ++ y ∷ []) (get_or_from_slice_get all at x x here) in
+    e ∙ ap (λ t. t ++ f x) before ∙ flat_map_more f old (take at all) x ∙ ap (λ ys. old ++ flat_map f ys) (sym more)
+
+-- These lines were written behind the old text.
+pub record Wrote (g : GraphValue) (old : List ℕ) (xs : List CertLine) (new : List ℕ) : Type 0 where
+  pub is : new ≡ old ++ spelling g xs
+
+pub wrote-line : (g : GraphValue) (old new : List ℕ) (x : CertLine) → new ≡ old ++ line_text g x → Wrote g old (x ∷ []) new
+wrote-line g old new x e = record { is = e ∙ ap (λ t. old ++ t) (sym (append-nil (line_text g x))) }
+
+pub wrote-map : (A : Type 0) (g : GraphValue) (old new : List ℕ) (c : A → CertLine) (xs : List A) → new ≡ old ++ flat_map (λ a. line_text g (c a)) xs → Wrote g old (map c xs) new
+wrote-map A g old new c xs e =
+    let whole = flat_map-map (λ l. l ++ 10 ∷ []) (spelled g) (map c xs) ∙ flat_map-map (λ x. spelled g x ++ 10 ∷ []) c xs in
+    record { is = e ∙ ap (λ t. old ++ t) (sym whole) }
+
+pub wrote-then : (g : GraphValue) (old mid new : List ℕ) (xs ys : List CertLine) → Wrote g old xs mid → Wrote g mid ys new → Wrote g old (xs ++ ys) new
+wrote-then g old mid new xs ys a b =
+    let whole = ap (flat_map (λ l. l ++ 10 ∷ [])) (map-append (spelled g) xs ys) ∙ flat_map-append (λ l. l ++ 10 ∷ []) (map (spelled g) xs) (map (spelled g) ys) in
+    record { is = b.is ∙ ap (λ t. t ++ spelling g ys) a.is ∙ append_assoc old (spelling g xs) (spelling g ys) ∙ ap (λ t. old ++ t) (sym whole) }
+
+pub turned-more : (ls : List Line) (heads : List Bool) (j : ℕ) (l : Line) (b : Bool) → slice_get ls j ≡ Some l → slice_get heads j ≡ Some b → turned_lines (take (suc j) ls) (take (suc j) heads) ≡ turned_lines (take j ls) (take j heads) ++ turned_line l b ∷ []
+turned-more [] heads j l b p q = cc
+turned-more (k ∷ ls) [] j l b p q = cc
+turned-more (k ∷ ls) (h ∷ heads) zero l b p q = let here : k ≡ l = cc in let turn : h ≡ b = cc in λ i. turned_line (here i) (turn i) ∷ []
+turned-more (k ∷ ls) (h ∷ heads) (suc j) l b p q = ap (λ x. turned_line k h ∷ x) (turned-more ls heads j l b p q)
+
+pub names-more : (names : List (List ℕ)) (X : List Bool) (v : ℕ) → v < length names → v < length X → names_in (take (suc v) names) (take (suc v) X) ≡ names_in (take v names) (take v X) ++ cond (get_or X v false) (get_or names v [] ∷ []) []
+names-more [] X v a b = absurd (omega (arith, a))
+names-more (n ∷ names) [] v a b = absurd (omega (arith, b))
+names-more (n ∷ names) (true ∷ X) zero a b = refl
+names-more (n ∷ names) (false ∷ X) zero a b = refl
+names-more (n ∷ names) (true ∷ X) (suc v) a b = ap (λ x. n ∷ x) (names-more names X v (omega (arith, a)) (omega (arith, b)))
+names-more (n ∷ names) (false ∷ X) (suc v) a b = names-more names X v (omega (arith, a)) (omega (arith, b))
+
+pub set-more : (g : GraphValue) (X : List Bool) (v : ℕ) (old now new : List ℕ) → v < length g.names → v < length X → now ≡ old ++ join_with_byte 32 (codes "set" ∷ names_in (take v g.names) (take v X)) → new ≡ now ++ member_name g X v
+    → new ≡ old ++ join_with_byte 32 (codes "set" ∷ names_in (take (v + 1) g.names) (take (v + 1) X))
+set-more g X v old now new a b before e = by (get_or X v false) refl e
+  where
+    grown : (m : Bool) → get_or X v false ≡ m → names_in (take (v + 1) g.names) (take (v + 1) X) ≡ names_in (take v g.names) (take v X) ++ cond m (name_of g v ∷ []) []
+    grown m t = rw add-one (names-more g.names X v a b ∙ ap (λ n. names_in (take v g.names) (take v X) ++ cond n (name_of g v ∷ []) []) t)
+
+    by : (m : Bool) → get_or X v false ≡ m → new ≡ now ++ cond m (32 ∷ name_of g v) [] → new ≡ old ++ join_with_byte 32 (codes "set" ∷ names_in (take (v + 1) g.names) (take (v + 1) X))
+    by true t d =
+        d ∙ ap (λ s. s ++ 32 ∷ name_of g v) before ∙ append_assoc old (join_with_byte 32 (codes "set" ∷ names_in (take v g.names) (take v X))) (32 ∷ name_of g v)
+        ∙ ap (λ s. old ++ s) (sym (join-more (codes "set") (names_in (take v g.names) (take v X)) (name_of g v)) ∙ ap (λ ws. join_with_byte 32 (codes "set" ∷ ws)) (sym (grown true t)))
+    by false t d =
+        d ∙ append-nil now ∙ before ∙ ap (λ ws. old ++ join_with_byte 32 (codes "set" ∷ ws)) (sym (append-nil (names_in (take v g.names) (take v X))) ∙ sym (grown false t))
+
+pub turned-wrote : (g : GraphValue) (heads : List Bool) (j : ℕ) (old now new : List ℕ) (l : Line) (b : Bool) → slice_get g.lines j ≡ Some l → slice_get heads j ≡ Some b → now ≡ old ++ spelling g (turned_lines (take j g.lines) (take j heads)) → new ≡ now ++ line_text g (turned_line l b)
+    → new ≡ old ++ spelling g (turned_lines (take (j + 1) g.lines) (take (j + 1) heads))
+turned-wrote g heads j old now new l b p q before e =
+    let more : turned_lines (take (j + 1) g.lines) (take (j + 1) heads) ≡ turned_lines (take j g.lines) (take j heads) ++ turned_line l b ∷ [] = rw add-one (turned-more g.lines heads j l b p q) in
+    (wrote-then g old now new (turned_lines (take j g.lines) (take j heads)) (turned_line l b ∷ []) (record { is = before }) (wrote-line g now new (turned_line l b) e)).is ∙ ap (λ xs. old ++ spelling g xs) (sym more)
+
+-- a dual of several sides, and the end
+pub wrote-family : (g : GraphValue) (old a b new : List ℕ) (k : DualKind) (sides : List (List Bool)) → a ≡ old ++ word_line (codes "dual") (kind_word k) → b ≡ a ++ flat_map (λ X. line_text g (line.Set X)) sides → new ≡ b ++ line_text g line.End
+    → new ≡ old ++ spelling g (line.Dual k ∷ (set_lines sides ++ line.End ∷ []))
+wrote-family g old a b new k sides dual sets end =
+    let rest = wrote-then g a b new (set_lines sides) (line.End ∷ []) (wrote-map (List Bool) g a b line.Set sides sets) (wrote-line g b new line.End end) in
+    (wrote-then g old a new (line.Dual k ∷ []) (set_lines sides ++ line.End ∷ []) (wrote-line g old a (line.Dual k) dual) rest).is
+
+-- a value, object lines of one form, and the rest
+pub wrote-object : (A : Type 0) (g : GraphValue) (old a b new : List ℕ) (value : ℕ) (c : A → CertLine) (xs : List A) (tail : List CertLine) → a ≡ old ++ word_line (codes "value") (decimal value) → b ≡ a ++ flat_map (λ x. line_text g (c x)) xs → new ≡ b ++ spelling g tail
+    → new ≡ old ++ spelling g (line.Value value ∷ (map c xs ++ tail))
+wrote-object A g old a b new value c xs tail head object rest =
+    let more = wrote-then g a b new (map c xs) tail (wrote-map A g a b c xs object) (record { is = rest }) in
+    (wrote-then g old a new (line.Value value ∷ []) (map c xs ++ tail) (wrote-line g old a (line.Value value) head) more).is
+
+-- object lines of one form, and the end
+pub wrote-end : (g : GraphValue) (old a new : List ℕ) (xs : List CertLine) → a ≡ old ++ spelling g xs → new ≡ a ++ line_text g line.End → new ≡ old ++ spelling g (xs ++ line.End ∷ [])
+wrote-end g old a new xs object end = (wrote-then g old a new xs (line.End ∷ []) (record { is = object }) (wrote-line g a new line.End end)).is

@@ -1,0 +1,6 @@
+use Rattle.certificate_text.specs.WordsLeft.{words_left}
+use Rattle.certificate_text.proofs.LineLaws.{no-arc}
+use Rattle.certificate_text.proofs.read_line.arc_line.Goals as goal
+
+pub returns-in-None : goal.returns-in-None
+returns-in-None c = no-arc c.args.graph.now (words_left c.args.words) c.in-None.ensures

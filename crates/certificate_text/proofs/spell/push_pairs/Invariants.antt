@@ -1,0 +1,7 @@
+use Rattle.std.proofs.Common.{◌≡◌, ◌++◌, take}
+use Rattle.std.specs.List.{flat_map}
+use Rattle.certificate_text.specs.Words as words_of
+use Rattle.certificate_text.proofs.spell.push_pairs.Given as goal
+
+abbrev pub invariant-loop-at : goal.invariant-loop-at
+invariant-loop-at l = l.text.items ≡ l.fn.text.items ++ flat_map (words_of.pair_line l.graph l.word) (take l.at l.pairs)

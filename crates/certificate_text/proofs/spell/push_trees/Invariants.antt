@@ -1,0 +1,8 @@
+use Rattle.std.proofs.Common.{◌≡◌, ◌++◌, take}
+use Rattle.std.specs.List.{flat_map}
+use Rattle.certificate_text.specs.Text.{line_text}
+use Rattle.certificate_text.specs.declared.line.CertLine.TheVariants as line
+use Rattle.certificate_text.proofs.spell.push_trees.Given as goal
+
+abbrev pub invariant-loop-at : goal.invariant-loop-at
+invariant-loop-at l = l.text.items ≡ l.fn.text.items ++ flat_map (λ p. line_text l.graph (line.Tree p.0 p.1 p.2)) (take l.at l.pairs)

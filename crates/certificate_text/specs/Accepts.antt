@@ -1,0 +1,32 @@
+-- Lines that a row of the table takes.
+use Rattle.std.specs.Prelude.{◌≡◌, ℕ, ◌⊎◌, List, [], ◌∷◌, length, Some}
+use Rattle.graph_core.specs.Graph.{GraphValue}
+use Rattle.problem_defs.specs.Shaped.{Belongs, IsInRange}
+use Rattle.problem_defs.specs.declared.ask.Ask.{Ask}
+use Rattle.problem_defs.specs.declared.cert.Body.{Body}
+use Rattle.certificate_text.specs.declared.line.CertLine.{CertLine}
+use Rattle.certificate_text.specs.declared.row.Piece.{Piece}
+use Rattle.certificate_text.specs.Table.{rows}
+use Rattle.certificate_text.specs.declared.row.Slot.{Slot}
+use Rattle.certificate_text.specs.Machine.{slots, run}
+use Rattle.certificate_text.specs.Valid.{IsValid}
+use Rattle.certificate_text.specs.Fits.{fits}
+use Rattle.certificate_text.specs.Lines.{body_lines}
+use Rattle.problem_defs.specs.Shaped.{NumbersFit}
+
+-- one of these rows has the property
+abbrev pub SomeRow : (List Piece → Type 0) → List (List Piece) → Type 0
+SomeRow P [] = ⊥
+SomeRow P (row ∷ rows) = P row ⊎ SomeRow P rows
+
+-- a row of the command takes these lines, and is then at its end
+abbrev pub Accepts : GraphValue → Ask → List CertLine → Type 0
+Accepts g ask xs = SomeRow (λ row. run (fits g) (slots (length g.lines) row) xs ≡ Some []) (rows ask)
+
+-- a body of the command, of which these are the lines
+pub record HasBody (g : GraphValue) (ask : Ask) (xs : List CertLine) : Type 0 where
+  pub body : Body
+  pub belongs : Belongs ask body
+  pub in_range : IsInRange (length g.names) (length g.lines) body
+  pub numbers_fit : NumbersFit body
+  pub lines_are : body_lines g ask body ≡ xs

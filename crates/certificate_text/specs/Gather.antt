@@ -1,0 +1,67 @@
+-- What lines hold, gathered, and the body that is made of it.
+use Rattle.std.specs.Prelude.{ℕ, ◌==◌, Bool, true, false, if◌then◌else◌, List, [], ◌∷◌, ◌++◌, slice_index_or}
+use Rattle.graph_core.specs.Graph.{GraphValue}
+use Rattle.graph_core.specs.declared.graph.Line.{Line}
+use Rattle.problem_defs.specs.declared.ask.Ask.{Ask}
+use Rattle.problem_defs.specs.declared.ask.Ask.TheVariants as ask
+use Rattle.problem_defs.specs.declared.cert.Body.{Body}
+use Rattle.problem_defs.specs.declared.cert.Body.TheVariants as body
+use Rattle.problem_defs.specs.declared.cert.PartsDual.TheVariants as parts
+use Rattle.problem_defs.specs.declared.cert.Way.{Way}
+use Rattle.problem_defs.specs.declared.cert.Way.TheVariants.{Entering, Leaving}
+use Rattle.certificate_text.specs.declared.line.CertLine.{CertLine}
+use Rattle.certificate_text.specs.declared.line.CertLine.TheVariants as line
+use Rattle.certificate_text.specs.declared.line.DualKind.{DualKind}
+use Rattle.certificate_text.specs.declared.line.DualKind.TheVariants as kind
+use Rattle.certificate_text.specs.declared.gather.Content.{Content}
+
+abbrev pub nothing : Content
+nothing = record { value = 0; impossible = false; rows = []; trees = []; pairs = []; kind = kind.Nothing; sides = [] }
+
+-- the content with what one more line holds
+abbrev pub grown : Content → CertLine → Content
+grown c line.Title = c
+grown c (line.Command ask) = c
+grown c (line.Value n) = record c { value = n }
+grown c line.Impossible = record c { impossible = true }
+grown c (line.Path js) = record c { rows = c.rows ++ js ∷ [] }
+grown c (line.Part js) = record c { rows = c.rows ++ js ∷ [] }
+grown c (line.Join js) = record c { rows = c.rows ++ js ∷ [] }
+grown c (line.Tree u v n) = record c { trees = c.trees ++ (u, v, n) ∷ [] }
+grown c (line.Edge u v) = record c { pairs = c.pairs ++ (u, v) ∷ [] }
+grown c (line.Arc u v) = record c { pairs = c.pairs ++ (u, v) ∷ [] }
+grown c (line.Dual k) = record c { kind = k }
+grown c (line.Set X) = record c { sides = c.sides ++ X ∷ [] }
+grown c line.End = c
+
+abbrev pub gather : Content → List CertLine → Content
+gather c [] = c
+gather c (x ∷ xs) = gather (grown c x) xs
+
+-- whether each edge goes from its first written end
+abbrev pub heads_of : List Line → List (ℕ × ℕ) → List Bool
+heads_of [] pairs = []
+heads_of (l ∷ ls) [] = []
+heads_of (l ∷ ls) (p ∷ pairs) = (p.0 == l.tail) ∷ heads_of ls pairs
+
+abbrev pub only_side : Content → List Bool
+only_side c = slice_index_or c.sides 0 []
+
+abbrev pub forests_body : Content → DualKind → Body
+forests_body c kind.Nothing = body.Parts c.value c.rows parts.Nothing
+forests_body c other = body.Parts c.value c.rows (parts.Induced (only_side c))
+
+abbrev pub way_of : DualKind → Way
+way_of kind.Out = Leaving
+way_of other = Entering
+
+abbrev pub body_of : GraphValue → Ask → Content → Body
+body_of g (ask.Flow s t) c = body.Walks c.value c.rows (only_side c)
+body_of g ask.CutTree c = body.Tree c.trees
+body_of g (ask.Augment k) c = body.Edges c.value c.pairs c.sides
+body_of g (ask.AugmentArcs k) c = body.Arcs c.value c.pairs (way_of c.kind) c.sides
+body_of g (ask.Arborescences r) c = body.Parts c.value c.rows (parts.Cut (only_side c))
+body_of g ask.Trees c = body.Parts c.value c.rows (parts.Partition c.sides)
+body_of g ask.Forests c = forests_body c c.kind
+body_of g (ask.Orient k) c = if c.impossible then body.Never (only_side c) else body.Turned (heads_of g.lines c.pairs)
+body_of g ask.Dijoin c = if c.impossible then body.Never (only_side c) else body.Join c.value (slice_index_or c.rows 0 []) c.sides
