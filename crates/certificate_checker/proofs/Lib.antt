@@ -1,0 +1,4 @@
+pub mod Ends
+pub mod LineCounts
+pub mod MarkLaws
+pub mod OneAnswer

@@ -1,0 +1,58 @@
+-- Marks count how often numbers stand in rows.
+use Rattle.std.proofs.Common.{◌≡◌, ℕ, zero, suc, ◌+◌, ◌<◌, ◌≤◌, ◌==◌, Bool, true, false, cond, List, length, take, get_or, refl, sym, ap, ◌∙◌, eq-eqb, replicate, IsTrue, ◌↔◌, lit≤, arith}
+use Rattle.std.specs.Bool.{OnTrue, OnFalse}
+use Rattle.std.proofs.lemmas.Bool.{false≢true}
+use Rattle.graph_core.specs.Walks.{AreDisjoint}
+use Rattle.std.specs.List.{concat, sum_by}
+use Rattle.std.proofs.lemmas.List.Sums.{sum_by_more, sum_by_more_le}
+use Rattle.graph_core.specs.Picked.{occurrences}
+use Rattle.graph_core.specs.Side.{has}
+use Rattle.graph_core.proofs.Counting.{sum_by-concat}
+use Rattle.certificate_checker.specs.Marks.{mark}
+
+pub mark-twice : (x i before : ℕ) (X : List Bool) (row : List ℕ) → i < length row → get_or row i 0 ≡ x → has X x ≡ true → mark X x ≡ before + occurrences x (take i row) → 2 ≤ before + occurrences x row
+mark-twice x i before X row in_row is marked known =
+    let more : occurrences x (take i row) + cond {A = ℕ} (get_or row i 0 == x) 1 0 ≤ occurrences x row = sum_by_more_le (λ k. cond (k == x) 1 0) row i 0 in_row in
+    let same : (get_or row i 0 == x) ≡ true = eq-eqb (get_or row i 0) x is in
+    let here : cond {A = ℕ} (get_or row i 0 == x) 1 0 ≡ 1 = ap (λ b. cond {A = ℕ} b 1 0) same in
+    let one : mark X x ≡ 1 = ap (λ b. cond {A = ℕ} b 1 0) marked in
+    omega arith
+
+all-false : (n j : ℕ) → has (replicate n false) j ≡ false
+all-false zero j = refl
+all-false (suc n) zero = refl
+all-false (suc n) (suc j) = all-false n j
+
+in_rows : (x : ℕ) (rows : List (List ℕ)) → occurrences x (concat rows) ≡ sum_by (occurrences x) rows
+in_rows x rows = sum_by-concat (λ k. cond (k == x) 1 0) rows
+
+pub row-more : (x i : ℕ) (rows : List (List ℕ)) (d : List ℕ) → i < length rows → occurrences x (concat (take (i + 1) rows)) ≡ occurrences x (concat (take i rows)) + occurrences x (get_or rows i d)
+row-more x i rows d within = in_rows x (take (i + 1) rows) ∙ sum_by_more (occurrences x) rows i d within ∙ ap (λ n. n + occurrences x (get_or rows i d)) (sym (in_rows x (take i rows)))
+
+pub row-more-le : (x i : ℕ) (rows : List (List ℕ)) (d : List ℕ) → i < length rows → occurrences x (concat (take i rows)) + occurrences x (get_or rows i d) ≤ occurrences x (concat rows)
+row-more-le x i rows d within =
+    let more = sum_by_more_le (occurrences x) rows i d within in
+    let before = in_rows x (take i rows) in
+    let all = in_rows x rows in
+    omega arith
+
+pub unmarked : (n j : ℕ) → mark (replicate n false) j ≡ 0
+unmarked n j = ap (λ b. cond {A = ℕ} b 1 0) (all-false n j)
+
+mark-le : (X : List Bool) (j : ℕ) → mark X j ≤ 1
+mark-le X j = elim (has X j) as (λ b. cond {A = ℕ} b 1 0 ≤ 1) [ true ↦ lit≤ tt | false ↦ lit≤ tt ]
+
+-- no number stands twice, where each got a mark that it hadn't before
+pub marked-apart : (n : ℕ) (old new : List Bool) (rows : List (List ℕ)) (all : Bool) → old ≡ replicate n false
+    → OnTrue all ((j : ℕ) → mark new j ≡ mark old j + occurrences j (concat rows)) → OnFalse all ((j : ℕ) × (2 ≤ mark old j + occurrences j (concat rows))) → IsTrue all ↔ AreDisjoint rows
+marked-apart n old new rows true start once twice = (
+  λ _ j. let known : mark new j ≡ mark old j + occurrences j (concat rows) = once j in let one = mark-le new j in omega arith,
+  λ _. refl,
+)
+marked-apart n old new rows false start once (x, two) = (
+  λ never. absurd (false≢true never),
+  λ disjoint.
+      let none : mark old x ≡ 0 = ap (λ X. mark X x) start ∙ unmarked n x in
+      let once : occurrences x (concat rows) ≤ 1 = disjoint x in
+      absurd (omega arith),
+)

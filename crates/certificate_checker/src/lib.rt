@@ -1,0 +1,12 @@
+//! The checker: whether a text is a certificate that proves itself right for a graph.
+#![tactic(auto)]
+
+mod answer;
+mod flow;
+mod law;
+mod marks;
+mod rejection;
+
+pub use answer::check;
+pub use law::one_answer;
+pub use rejection::Rejection;

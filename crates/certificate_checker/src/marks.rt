@@ -1,0 +1,50 @@
+ghost use Rattle.std.specs.Prelude.{◌≡◌, ℕ, ◌+◌, ◌<◌, ◌≤◌, ◌↔◌, All, length, IsTrue, IfOk};
+ghost use Rattle.std.specs.List.{concat};
+ghost use Rattle.std.specs.Bool.{OnTrue, OnFalse};
+ghost use Rattle.graph_core.specs.Picked.{occurrences};
+ghost use Rattle.graph_core.specs.Walks.{AreDisjoint};
+ghost use Rattle.problem_defs.specs.Shaped.{AreRows};
+ghost use Rattle.certificate_checker.specs.Marks.{mark};
+
+use graph_core::{NoMemory, NumberRows, Numbers};
+use std::alloc::Global;
+
+/// Marks the numbers of a row, up to one that has a mark already.
+fn mark_row(marks: &mut [bool], row: &[u32]) -> bool
+    requires { All (λ j. j < length marks.old) row.now }
+    ensures once { OnTrue result ((j : ℕ) → mark marks.new j ≡ mark marks.old j + occurrences j row.now) }
+    ensures twice { OnFalse result ((j : ℕ) × (2 ≤ mark marks.old j + occurrences j row.now)) }
+{
+    for j in row {
+        let place = *j as usize;
+        if marks[place] {
+            return false;
+        }
+        marks[place] = true;
+    }
+    true
+}
+
+/// Marks the numbers of all rows, up to one that has a mark already.
+fn mark_rows(marks: &mut [bool], rows: &[Numbers]) -> bool
+    requires { AreRows (length marks.old) rows.now }
+    ensures once { OnTrue result ((j : ℕ) → mark marks.new j ≡ mark marks.old j + occurrences j (concat rows.now)) }
+    ensures twice { OnFalse result ((j : ℕ) × (2 ≤ mark marks.old j + occurrences j (concat rows.now))) }
+{
+    for row in rows {
+        if !mark_row(marks, row.as_slice()) {
+            return false;
+        }
+    }
+    true
+}
+
+/// Whether no number stands twice in all rows together.
+pub fn are_disjoint(alloc: Global, limit: usize, rows: &NumberRows) -> Result<bool, NoMemory>
+    requires few { limit ≤ 65536 }
+    requires below { AreRows limit rows.now }
+    ensures { IfOk result (λ disjoint. IsTrue disjoint ↔ AreDisjoint rows.now) }
+{
+    let mut marks = Vec::from_elem(alloc, false, limit)?;
+    Ok(mark_rows(&mut marks, rows.as_slice()))
+}
