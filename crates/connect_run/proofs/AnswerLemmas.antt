@@ -38,4 +38,3 @@ pub long_input : (old new : Option (List ℕ)) (taken : List ℕ) → Consumes o
 long_input None new taken consumed many = (taken, tt, omega (arith, many))
 long_input (Some xs) None taken consumed many = absurd consumed
 long_input (Some xs) (Some ys) taken consumed many = (xs, refl, omega (arith, ap length consumed ∙ length-append taken ys, many))
-

@@ -69,10 +69,10 @@ given-suits g words command given ask misfit is asks unsuited =
 -- words that are a command aren't bad
 pub command-not-bad : (words : List (List ℕ)) (place : ℕ) → IsBadPlace words place → AreCommand words → ⊥
 command-not-bad words place bad (command, commands) = elim bad [
-    | inl first ↦ first.bad (command, words, commands.writes, λ at before. refl)
-    | inr unbuilt ↦
-        (let (other, writes, isnt) = unbuilt.0 in
-        let same : command ≡ other = one_command words command other commands.writes writes in
-        let clash : true ≡ false = sym commands.built ∙ ap is_built same ∙ isnt in
-        cc)
-  ]
+  | inl first ↦ first.bad (command, words, commands.writes, λ at before. refl)
+  | inr unbuilt ↦
+      (let (other, writes, isnt) = unbuilt.0 in
+      let same : command ≡ other = one_command words command other commands.writes writes in
+      let clash : true ≡ false = sym commands.built ∙ ap is_built same ∙ isnt in
+      cc)
+]
