@@ -1,5 +1,5 @@
 -- Where a certificate text ends.
-use Rattle.std.proofs.Common.{◌≡◌, ℕ, ◌+◌, ◌<◌, ◌≤◌, true, List, [], ◌∷◌, ◌++◌, length, take, refl, ap, ◌∙◌, append-nil, length-append, arith}
+use Rattle.std.proofs.Common.{◌≡◌, ℕ, ◌+◌, ◌<◌, true, List, length, take, ap, ◌∙◌, length-append, arith}
 use Rattle.std.proofs.Math.Seq.{take-append_seam}
 use Rattle.graph_core.specs.Graph.{GraphValue, IsGraph}
 use Rattle.problem_defs.specs.declared.cert.Cert.{Cert}
@@ -7,7 +7,6 @@ use Rattle.certificate_text.specs.BadLine.{whole_lines}
 use Rattle.certificate_text.specs.Front.{IsAtFront}
 use Rattle.certificate_text.specs.Text.{text}
 use Rattle.certificate_checker.specs.Checked.{is_checked}
-use Rattle.certificate_checker.specs.Flaws.{IsTextOf}
 use Rattle.certificate_checker.specs.Malformed.{GoesOn}
 use Rattle.certificate_checker.proofs.LineCounts.{whole_lines-text}
 

@@ -10,3 +10,6 @@ mod rejection;
 pub use answer::check;
 pub use law::one_answer;
 pub use rejection::Rejection;
+
+#[cfg(test)]
+mod tests;

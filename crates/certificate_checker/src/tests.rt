@@ -1,0 +1,97 @@
+//! Certificates of walks across a square, right and wrong.
+
+ghost use Rattle.std.specs.Prelude.{◌≡◌, IfOk};
+ghost use Rattle.graph_core.specs.Graph.{IsWithinSize, line_of};
+
+use super::*;
+use graph_core::{Graph, Kind, Line, Name, NoMemory};
+use std::alloc::Global;
+use std::test::Fail;
+
+fn edge(tail: u32, head: u32) -> Line
+    ensures { result ≡ line_of (tail, head) }
+{
+    Line {
+        tail,
+        head,
+        fixed: false,
+    }
+}
+
+/// Nodes `a` to `d` with the edges ab, bd, ac and cd.
+fn square(alloc: Global) -> Result<Graph, NoMemory>
+    ensures { IfOk result (λ graph. IsWithinSize graph) }
+{
+    let names = [
+        Name::make(alloc, b"a")?,
+        Name::make(alloc, b"b")?,
+        Name::make(alloc, b"c")?,
+        Name::make(alloc, b"d")?,
+    ];
+    let Ok(names) = Vec::from_array(alloc, names) else {
+        return Err(NoMemory);
+    };
+    let lines = [edge(0, 1), edge(1, 3), edge(0, 2), edge(2, 3)];
+    let Ok(lines) = Vec::from_array(alloc, lines) else {
+        return Err(NoMemory);
+    };
+    Ok(Graph::new(Kind::Undirected, names, lines))
+}
+
+const RIGHT: &str =
+    "certificate 1\ncommand flow a d\nvalue 2\npath 1 2\npath 3 4\ndual cut\nset a\nend\n";
+
+const OTHER_SIDE: &str =
+    "certificate 1\ncommand flow a d\nvalue 2\npath 1 2\npath 3 4\ndual cut\nset a b c\nend\n";
+
+const WRONG_SIDE: &str =
+    "certificate 1\ncommand flow a d\nvalue 2\npath 1 2\npath 3 4\ndual cut\nset b\nend\n";
+
+const NO_WALK: &str =
+    "certificate 1\ncommand flow a d\nvalue 2\npath 1 3\npath 3 4\ndual cut\nset a\nend\n";
+
+const SHARED_EDGE: &str =
+    "certificate 1\ncommand flow a d\nvalue 2\npath 1 2\npath 1 2\ndual cut\nset a\nend\n";
+
+const BOTH_WRONG: &str =
+    "certificate 1\ncommand flow a d\nvalue 2\npath 1 3\npath 3 4\ndual cut\nset b\nend\n";
+
+const ONE_WALK: &str = "certificate 1\ncommand flow a d\nvalue 1\npath 1 2\ndual cut\nset a\nend\n";
+
+const OTHER_VALUE: &str =
+    "certificate 1\ncommand flow a d\nvalue 3\npath 1 2\npath 3 4\ndual cut\nset a\nend\n";
+
+const NO_END: &str =
+    "certificate 1\ncommand flow a d\nvalue 2\npath 1 2\npath 3 4\ndual cut\nset a\n";
+
+const MORE: &str =
+    "certificate 1\ncommand flow a d\nvalue 2\npath 1 2\npath 3 4\ndual cut\nset a\nend\n\n";
+
+const ZERO: &str =
+    "certificate 1\ncommand flow a d\nvalue 02\npath 1 2\npath 3 4\ndual cut\nset a\nend\n";
+
+const UNCHECKED: &str = "certificate 1\ncommand augment 2\nvalue 0\ndual subpartition\nend\nend\n";
+
+#[test]
+fn walks_across_a_square(rt: HostRuntime) -> Result<(), Fail> {
+    let graph = square(rt.alloc())?;
+    for (text, want) in [
+        (RIGHT, Ok(())),
+        (OTHER_SIDE, Ok(())),
+        (WRONG_SIDE, Err(Rejection::BadDual)),
+        (NO_WALK, Err(Rejection::Infeasible)),
+        (SHARED_EDGE, Err(Rejection::Infeasible)),
+        (BOTH_WRONG, Err(Rejection::Infeasible)),
+        (ONE_WALK, Err(Rejection::Gap)),
+        (OTHER_VALUE, Err(Rejection::Gap)),
+        (NO_END, Err(Rejection::Malformed { line: 8 })),
+        (MORE, Err(Rejection::Malformed { line: 9 })),
+        (ZERO, Err(Rejection::Malformed { line: 3 })),
+        (UNCHECKED, Err(Rejection::Malformed { line: 2 })),
+        ("", Err(Rejection::Malformed { line: 1 })),
+    ] {
+        let answer = check(rt.alloc(), &graph, text.as_bytes());
+        assert_eq!(rt; answer, want, "{text}");
+    }
+    Ok(())
+}
