@@ -1,11 +1,16 @@
 -- From what is said to what is written.
-use Rattle.std.proofs.Common.{◌≡◌, ℕ, ◌+◌, ◌<◌, ◌≤◌, List, [], ◌++◌, length, refl, sym, ap, subst, ◌∙◌, inl, inr, None, Some, Option, IfSome, arith, append-nil, length-append}
+use Rattle.std.proofs.Common.{true, ◌≡◌, ℕ, ◌+◌, ◌<◌, ◌≤◌, List, [], ◌++◌, length, refl, sym, ap, subst, ◌∙◌, inl, inr, None, Some, Option, IfSome, arith, append-nil, length-append}
 use Rattle.std.specs.Io.KnownBytes.{Consumes, IsAtEnd}
 use Rattle.connect_words.specs.declared.command.Command.{Command}
 use Rattle.connect_run.specs.declared.status.Status.{Status}
-use Rattle.connect_run.specs.Built.{Commands}
+use Rattle.connect_run.specs.Built.{Commands, is_solving}
 use Rattle.connect_run.specs.LargeCase.{limit}
-use Rattle.connect_run.specs.Answer.{AnswersInput}
+use Rattle.graph_core.specs.Graph.{GraphValue}
+use Rattle.graph_text.specs.Reading.{IsTextAlone, IsFaultAlone}
+use Rattle.graph_text.specs.declared.refusal.Why.{Why}
+use Rattle.connect_words.specs.declared.command.Command.TheVariants.{Check}
+use Rattle.connect_run.specs.FaultCase.{FaultOf, AnswersFault, fault_status, fault_text}
+use Rattle.connect_run.specs.Answer.{AnswersInput, AnswersText, AnswersGraph}
 use Rattle.connect_run.specs.Run.{AnswersLeft, Writes}
 use Rattle.connect_run.specs.Saying.{Says, Replies}
 use Rattle.connect_run.proofs.StatusLemmas.{answer-told, whole-writes}
@@ -21,6 +26,25 @@ pub replies-writes : (words : List (List ℕ)) (command : Command) (left old new
 replies-writes words command left old new input result commands short told (inl (text, status, answers, said)) =
     says-writes words left old new text status result (input, told, inr (command, commands, inr (short, answers))) said
 replies-writes words command left old new input result commands short told (inr (same, kept)) = subst (Writes words left old new) (sym same) kept
+
+-- what one relation answers, a weaker one does
+pub replies-weaker : (P Q : List ℕ → Status → Type 0) → ((text : List ℕ) (status : Status) → P text status → Q text status) → (old new : Option (List ℕ)) (result : Status) → Replies P old new result → Replies Q old new result
+replies-weaker P Q weaker old new result (inl (text, status, answers, said)) = inl (text, status, weaker text status answers, said)
+replies-weaker P Q weaker old new result (inr out) = inr out
+
+-- a graph text and a fault are what the command makes of them
+pub text-of : (command : Command) → is_solving command ≡ true → (words : List (List ℕ)) (input : List ℕ) (g : GraphValue) (text : List ℕ) (status : Status) → IsTextAlone input g → AnswersGraph command words g text status → AnswersText command words input text status
+text-of Check solving words input g text status reads answers = absurd cc
+text-of command solving words input g text status reads answers = (g, reads, answers)
+
+pub fault-of : (command : Command) → is_solving command ≡ true → (input : List ℕ) (line : ℕ) (why : Why) → IsFaultAlone input line why → FaultOf command input line why
+fault-of Check solving input line why fault = absurd cc
+fault-of command solving input line why fault = fault
+
+-- a fault is answered, by its line and cause under other names
+pub faults : (command : Command) (input text : List ℕ) (status : Status) (line line' : ℕ) (why why' : Why) → line' ≡ line → why' ≡ why → FaultOf command input line why → status ≡ fault_status why' → text ≡ fault_text line' why' → AnswersFault command input text status
+faults command input text status line line' why why' l w fault status_is text_is =
+    record { line = line; why = why; fault = fault; status_is = status_is ∙ ap fault_status w; text_is = text_is ∙ ap (λ x. fault_text x why') l ∙ ap (fault_text line) w }
 
 -- an input for a source that tells it or doesn't
 pub some_input : (left : Option (List ℕ)) → (input : List ℕ) × IfSome left (λ bytes. input ≡ bytes)

@@ -1,5 +1,5 @@
 -- What a command asks, and that words are one command or bad.
-use Rattle.std.proofs.Common.{◌≡◌, ℕ, List, Option, None, Some, Result, Ok, Err, true, false, refl, sym, ap, subst, ◌∙◌, inl, inr}
+use Rattle.std.proofs.Common.{◌≡◌, ◌≢◌, ℕ, List, Option, None, Some, Result, Ok, Err, true, false, refl, sym, ap, subst, ◌∙◌, inl, inr}
 use Rattle.std.specs.Option.{IsSomeAnd}
 use Rattle.graph_core.specs.Graph.{GraphValue}
 use Rattle.problem_defs.specs.Ask.{misfit_of, KIsInRange}
@@ -9,13 +9,18 @@ use Rattle.problem_defs.specs.declared.ask.Misfit.{Misfit}
 use Rattle.connect_words.specs.Commands.{Solves}
 use Rattle.connect_words.specs.Asks.{asked, node_at, suited, unless}
 use Rattle.connect_words.specs.declared.command.Command.{Command}
-use Rattle.connect_words.specs.declared.command.Command.TheVariants.{Flow, CutTree}
+use Rattle.connect_words.specs.declared.command.Command.TheVariants.{Flow, CutTree, Check}
 use Rattle.connect_words.proofs.MeaningLemmas.{one_command}
-use Rattle.connect_run.specs.Built.{AreCommand, is_built, is_solved}
+use Rattle.connect_run.specs.Built.{AreCommand, is_built, is_solving, is_solved}
 use Rattle.connect_run.specs.WordsCase.{IsBadPlace}
 
--- a built command asks something, which is solved and is within its limits
-built-asks : (g : GraphValue) (words : List (List ℕ)) (command : Command) → is_built command ≡ true → (ask : Ask) × (asked g words command ≡ Some ask) × (is_solved ask ≡ true) × KIsInRange ask
+-- a built command but `check` is solved
+pub built-solving : (command : Command) → is_built command ≡ true → command ≢ Check → is_solving command ≡ true
+built-solving Check built other = absurd (other refl)
+built-solving command built other = built
+
+-- a command that is solved asks something, which is solved and is within its limits
+built-asks : (g : GraphValue) (words : List (List ℕ)) (command : Command) → is_solving command ≡ true → (ask : Ask) × (asked g words command ≡ Some ask) × (is_solved ask ≡ true) × KIsInRange ask
 built-asks g words Flow built = (ask.Flow (node_at g words 1) (node_at g words 2), refl, refl, tt)
 built-asks g words CutTree built = (ask.CutTree, refl, refl, tt)
 built-asks g words command built = absurd cc
@@ -27,8 +32,8 @@ pub record CanBeAsked (g : GraphValue) (words : List (List ℕ)) (command : Comm
   pub k : KIsInRange ask
   pub suits : misfit_of g ask ≡ None
 
--- a built command solves a problem on the graph that is read
-pub built-solves : (command : Command) → is_built command ≡ true → Solves command
+-- it solves a problem on the graph that is read
+pub built-solves : (command : Command) → is_solving command ≡ true → Solves command
 built-solves Flow built = ((λ same. cc), (λ kind nodes number same. cc))
 built-solves CutTree built = ((λ same. cc), (λ kind nodes number same. cc))
 built-solves command built = absurd cc
@@ -48,13 +53,13 @@ unless-err : (misfit : Option Misfit) (ask : Ask) (given : Misfit) → Err given
 unless-err None ask given same = absurd cc
 unless-err (Some misfit) ask given same = cc
 
-pub ok-asks : (g : GraphValue) (words : List (List ℕ)) (command : Command) (given : Ask) → is_built command ≡ true → IsAsked g words command (Ok given) → CanBeAsked g words command given
+pub ok-asks : (g : GraphValue) (words : List (List ℕ)) (command : Command) (given : Ask) → is_solving command ≡ true → IsAsked g words command (Ok given) → CanBeAsked g words command given
 ok-asks g words command given built is =
     let (ask, asks, solved, k) = built-asks g words command built in
     let (suits, same) = unless-ok (misfit_of g ask) ask given (is-suited g words command (Ok given) ask is asks) in
     subst (CanBeAsked g words command) same (record { asks = asks; solved = solved; k = k; suits = suits })
 
-pub err-asks : (g : GraphValue) (words : List (List ℕ)) (command : Command) (given : Misfit) → is_built command ≡ true → IsAsked g words command (Err given) → (ask : Ask) × (asked g words command ≡ Some ask) × (misfit_of g ask ≡ Some given)
+pub err-asks : (g : GraphValue) (words : List (List ℕ)) (command : Command) (given : Misfit) → is_solving command ≡ true → IsAsked g words command (Err given) → (ask : Ask) × (asked g words command ≡ Some ask) × (misfit_of g ask ≡ Some given)
 err-asks g words command given built is =
     let (ask, asks, solved, k) = built-asks g words command built in
     (ask, asks, unless-err (misfit_of g ask) ask given (is-suited g words command (Err given) ask is asks))

@@ -1,5 +1,5 @@
 -- Which statuses answers have.
-use Rattle.std.proofs.Common.{◌≡◌, ℕ, ◌⊎◌, List, Bool, true, false, Option, refl, ap, ◌∙◌, inl, inr}
+use Rattle.std.proofs.Common.{◌≡◌, ℕ, ◌⊎◌, List, Bool, true, false, Option, refl, ap, ◌∙◌, inl, inr, drop}
 use Rattle.graph_core.specs.Graph.{GraphValue}
 use Rattle.graph_text.specs.declared.refusal.Why.{Why}
 use Rattle.graph_text.specs.declared.refusal.Why.TheVariants.{ManyNodes, ManyLines}
@@ -11,7 +11,10 @@ use Rattle.problem_defs.specs.declared.cert.Body.TheVariants.{Tree, Walks, Parts
 use Rattle.problem_defs.specs.declared.cert.PartsDual.TheVariants.{Partition, Induced, Nothing}
 use Rattle.connect_run.specs.FaultCase.{fault_status}
 use Rattle.connect_run.specs.SolvedCase.{verdict}
-use Rattle.connect_run.specs.Answer.{IsAnswer}
+use Rattle.connect_words.specs.declared.command.Command.{Command}
+use Rattle.connect_words.specs.declared.command.Command.TheVariants.{Check}
+use Rattle.connect_run.specs.Answer.{IsAnswer, AnswersText, AnswersGraph}
+use Rattle.connect_run.specs.CheckCase.{AnswersCheck}
 use Rattle.connect_run.specs.Run.{Writes, WritesWhole}
 use Rattle.connect_run.specs.declared.status.Status.{Status}
 use Rattle.connect_run.specs.declared.status.Status.TheVariants.{Done, ReadFault, WriteFault, NoMemory}
@@ -41,12 +44,23 @@ verdict-done g Forests (Parts value rows (Induced side)) object = refl
 verdict-done g Forests (Parts value rows Nothing) object = refl
 verdict-done g ask body object = absurd object
 
+check-told : (g : GraphValue) (bytes text : List ℕ) (status : Status) → AnswersCheck g bytes text status → is_told status ≡ true
+check-told g bytes text status (inl accepted) = ap is_told accepted.status_is
+check-told g bytes text status (inr rejected) = ap is_told rejected.status_is
+
+graph-told : (command : Command) (words : List (List ℕ)) (g : GraphValue) (text : List ℕ) (status : Status) → AnswersGraph command words g text status → is_told status ≡ true
+graph-told command words g text status (ask, asks, inl unsuited) = ap is_told unsuited.status_is
+graph-told command words g text status (ask, asks, inr solved) = ap is_told solved.status_is ∙ verdict-told solved.cert.body
+
+text-told : (command : Command) (words : List (List ℕ)) (input text : List ℕ) (status : Status) → AnswersText command words input text status → is_told status ≡ true
+text-told Check words input text status answers = let (g, count, reads, checked) = answers in check-told g (drop count input) text status checked
+text-told command words input text status answers = let (g, reads, answered) = answers in graph-told command words g text status answered
+
 pub answer-told : (words : List (List ℕ)) (input text : List ℕ) (status : Status) → IsAnswer words input text status → is_told status ≡ true
 answer-told words input text status (inl bad) = ap is_told bad.status_is
 answer-told words input text status (inr (command, commands, inl long)) = ap is_told long.status_is
 answer-told words input text status (inr (command, commands, inr (short, inl fault))) = ap is_told fault.status_is ∙ fault-told fault.why
-answer-told words input text status (inr (command, commands, inr (short, inr (g, reads, (ask, asks, inl unsuited))))) = ap is_told unsuited.status_is
-answer-told words input text status (inr (command, commands, inr (short, inr (g, reads, (ask, asks, inr solved))))) = ap is_told solved.status_is ∙ verdict-told solved.cert.body
+answer-told words input text status (inr (command, commands, inr (short, inr answers))) = text-told command words input text status answers
 
 module _ (words : List (List ℕ)) (left old new : Option (List ℕ)) where
   -- an answer that is written whole is what its status says

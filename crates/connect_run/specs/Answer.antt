@@ -1,14 +1,16 @@
 -- The text and the status that answer words and an input: the first case that applies.
-use Rattle.std.specs.Prelude.{ℕ, ◌≡◌, ◌≤◌, ◌⊎◌, List, Some, length}
+use Rattle.std.specs.Prelude.{ℕ, ◌≡◌, ◌≤◌, ◌⊎◌, List, Some, length, drop}
 use Rattle.graph_core.specs.Graph.{GraphValue}
-use Rattle.graph_text.specs.Reading.{IsTextAlone}
+use Rattle.graph_text.specs.Reading.{ReadsText, IsTextAlone}
 use Rattle.problem_defs.specs.declared.ask.Ask.{Ask}
 use Rattle.connect_words.specs.Asks.{asked}
 use Rattle.connect_words.specs.declared.command.Command.{Command}
+use Rattle.connect_words.specs.declared.command.Command.TheVariants.{Check}
 use Rattle.connect_run.specs.Built.{Commands}
 use Rattle.connect_run.specs.WordsCase.{AnswersBadWords}
 use Rattle.connect_run.specs.LargeCase.{AnswersTooLong, limit}
 use Rattle.connect_run.specs.FaultCase.{AnswersFault}
+use Rattle.connect_run.specs.CheckCase.{AnswersCheck}
 use Rattle.connect_run.specs.UnsuitedCase.{AnswersUnsuited}
 use Rattle.connect_run.specs.SolvedCase.{AnswersSolved}
 use Rattle.connect_run.specs.declared.status.Status.{Status}
@@ -18,11 +20,14 @@ abbrev pub AnswersGraph : Command → List (List ℕ) → GraphValue → List �
 AnswersGraph command words g text status =
     (ask : Ask) × (asked g words command ≡ Some ask) × (AnswersUnsuited g ask text status ⊎ AnswersSolved g ask text status)
 
--- the answer to an input that isn't too long: it is no graph text, or the text of a graph
+-- the answer to a graph text: what follows it is checked, or its graph is answered
+abbrev pub AnswersText : Command → List (List ℕ) → List ℕ → List ℕ → Status → Type 0
+AnswersText Check words input text status = (g : GraphValue) × (count : ℕ) × ReadsText input g count × AnswersCheck g (drop count input) text status
+AnswersText command words input text status = (g : GraphValue) × IsTextAlone input g × AnswersGraph command words g text status
+
+-- the answer to an input that isn't too long: it is no graph text, or it is one
 abbrev pub AnswersInput : Command → List (List ℕ) → List ℕ → List ℕ → Status → Type 0
-AnswersInput command words input text status =
-    AnswersFault input text status
-    ⊎ ((g : GraphValue) × IsTextAlone input g × AnswersGraph command words g text status)
+AnswersInput command words input text status = AnswersFault command input text status ⊎ AnswersText command words input text status
 
 -- the answer to a command
 abbrev pub AnswersCommand : Command → List (List ℕ) → List ℕ → List ℕ → Status → Type 0

@@ -6,16 +6,20 @@ use Rattle.connect_words.specs.declared.command.Command.TheVariants as command
 use Rattle.problem_defs.specs.declared.ask.Ask.{Ask}
 use Rattle.problem_defs.specs.declared.ask.Ask.TheVariants as ask
 
--- a further command joins by its line, and so does its ask
-abbrev pub is_built : Command → Bool
-is_built command.Flow = true
-is_built command.CutTree = true
-is_built other = false
+-- The commands that ask something of the graph, which is then solved. A further command joins by its line, and so does its ask.
+abbrev pub is_solving : Command → Bool
+is_solving command.Flow = true
+is_solving command.CutTree = true
+is_solving other = false
 
 abbrev pub is_solved : Ask → Bool
 is_solved (ask.Flow s t) = true
 is_solved ask.CutTree = true
 is_solved other = false
+
+abbrev pub is_built : Command → Bool
+is_built command.Check = true
+is_built other = is_solving other
 
 -- the words write this command, and it is built
 pub record Commands (words : List (List ℕ)) (command : Command) : Type 0 where

@@ -1,8 +1,10 @@
 -- An input that is no graph text within the limits.
 use Rattle.std.specs.Prelude.{ℕ, ◌≡◌, List, ◌++◌, codes, decimal}
-use Rattle.graph_text.specs.Reading.{IsFaultAlone}
+use Rattle.graph_text.specs.Reading.{IsFault, IsFaultAlone}
 use Rattle.graph_text.specs.declared.refusal.Why.{Why}
 use Rattle.graph_text.specs.declared.refusal.Why.TheVariants.{NoHeader, BadLine, WrongKind, BadName, TwiceNode, UnknownNode, Loop, ManyNodes, ManyLines, NoNode, NoEnd}
+use Rattle.connect_words.specs.declared.command.Command.{Command}
+use Rattle.connect_words.specs.declared.command.Command.TheVariants.{Check}
 use Rattle.connect_run.specs.declared.status.Status.{Status}
 use Rattle.connect_run.specs.declared.status.Status.TheVariants.{BadGraph, TooLarge}
 
@@ -36,10 +38,15 @@ fault_text line ManyNodes = large_text ManyNodes
 fault_text line ManyLines = large_text ManyLines
 fault_text line why = graph_text line why
 
+-- the first fault of the graph text, counted with what follows the text but for `check`
+abbrev pub FaultOf : Command → List ℕ → ℕ → Why → Type 0
+FaultOf Check input line why = IsFault input line why
+FaultOf command input line why = IsFaultAlone input line why
+
 -- the first fault with its line, where lines are counted from 1
-pub record AnswersFault (input text : List ℕ) (status : Status) : Type 0 where
+pub record AnswersFault (command : Command) (input text : List ℕ) (status : Status) : Type 0 where
   pub line : ℕ
   pub why : Why
-  pub fault : IsFaultAlone input line why
+  pub fault : FaultOf command input line why
   pub status_is : status ≡ fault_status why
   pub text_is : text ≡ fault_text line why

@@ -4,16 +4,17 @@ use Rattle.std.specs.declared.option.Option.{Option}
 use Rattle.std.specs.Io.KnownBytes.{Keeps, Appends, IsAtEnd}
 use Rattle.cn_edge.specs.Whole.{AppendsPart}
 use Rattle.graph_core.specs.Graph.{GraphValue}
-use Rattle.graph_text.specs.Reading.{IsTextAlone}
+use Rattle.graph_text.specs.Reading.{ReadsText, IsTextAlone}
 use Rattle.connect_words.specs.Asks.{asked}
 use Rattle.connect_words.specs.declared.command.Command.{Command}
+use Rattle.connect_words.specs.declared.command.Command.TheVariants.{Check}
 use Rattle.problem_defs.specs.Ask.{misfit_of}
 use Rattle.problem_defs.specs.declared.ask.Ask.{Ask}
 use Rattle.connect_run.specs.Built.{Commands}
 use Rattle.connect_run.specs.LargeCase.{limit}
 use Rattle.connect_run.specs.Answer.{IsAnswer}
 use Rattle.connect_run.specs.declared.status.Status.{Status}
-use Rattle.connect_run.specs.declared.status.Status.TheVariants.{Done, ReadFault, WriteFault, NoMemory}
+use Rattle.connect_run.specs.declared.status.Status.TheVariants.{Done, Rejected, ReadFault, WriteFault, NoMemory}
 
 -- an answer to what the source had left, where it tells it, and else to some input
 abbrev pub AnswersLeft : List (List ℕ) → Option (List ℕ) → List ℕ → Status → Type 0
@@ -57,6 +58,15 @@ pub record CanBeSolved (words : List (List ℕ)) (input : List ℕ) : Type 0 whe
   pub asks : asked g words command ≡ Some ask
   pub suits : misfit_of g ask ≡ None
 
+-- what a run that has to accept or reject is given: `check`, and an input within the limits that begins with a graph text
+pub record CanBeChecked (words : List (List ℕ)) (input : List ℕ) : Type 0 where
+  pub checks : Commands words Check
+  pub short : length input ≤ limit
+  pub g : GraphValue
+  pub count : ℕ
+  pub reads : ReadsText input g count
+
 -- it does succeed, unless a fault came or memory ran out
-abbrev pub IsComplete : List (List ℕ) → List ℕ → Status → Type 0
-IsComplete words input result = CanBeSolved words input → Ends result Done
+pub record IsComplete (words : List (List ℕ)) (input : List ℕ) (result : Status) : Type 0 where
+  pub solved : CanBeSolved words input → Ends result Done
+  pub checked : CanBeChecked words input → Ends result Done ⊎ Ends result Rejected

@@ -1,22 +1,24 @@
-ghost use Rattle.std.specs.Prelude.{◌≡◌, ◌⊎◌, Some, None, true, map, string_bytes, IfOk};
+ghost use Rattle.std.specs.Prelude.{ℕ, List, ◌≡◌, ◌⊎◌, Some, None, true, map, string_bytes, IfOk};
 ghost use Rattle.cn_edge.specs.Causes.{CountsFault};
 ghost use Rattle.graph_core.specs.Graph.{IsWithinSize};
 ghost use Rattle.problem_defs.specs.Ask.{misfit_of, KIsInRange};
 ghost use Rattle.problem_defs.specs.declared.ask.Ask.{Ask as AskValue};
 ghost use Rattle.problem_defs.specs.declared.ask.Misfit.{Misfit as MisfitValue};
 ghost use Rattle.connect_words.specs.Asks.{asked};
-ghost use Rattle.connect_run.specs.Built.{Commands, is_solved};
+ghost use Rattle.connect_run.specs.Built.{Commands, is_solved, is_solving};
 ghost use Rattle.connect_run.specs.Answer.{AnswersGraph, AnswersInput};
+ghost use Rattle.connect_run.specs.CheckCase.{AnswersCheck};
 ghost use Rattle.connect_run.specs.SolvedCase.{verdict, AnswersSolved};
 ghost use Rattle.connect_run.specs.Saying.{Says, Replies};
 
-use crate::lines::{fault_line, unsuited_line};
+use crate::lines::{fault_line, rejected_line, unsuited_line};
 use crate::{Status, solve};
+use certificate_checker::{Rejection, check};
 use certificate_text::write_cert;
 use cn_edge::{Sink, write_all};
 use connect_words::{Command, ask_of};
 use graph_core::{Graph, NoMemory};
-use graph_text::{GraphRefusal, read_graph_alone};
+use graph_text::{GraphRefusal, read_graph, read_graph_alone};
 use problem_defs::{Ask, Body, Cert};
 use std::alloc::Global;
 
@@ -51,6 +53,25 @@ pub fn reply<K: Sink>(
     ensures replies { Replies (AnswersInput command.now (map string_bytes words.now) input.now) (K.written sink.old) (K.written sink.new) result }
     ensures write { result ≡ Status.WriteFault → CountsFault (K.faults sink.old) (K.faults sink.new) }
 {
+    match command {
+        Command::Check => reply_to_check(alloc, input, sink),
+        _ => reply_to_text(alloc, command, words, input, sink),
+    }
+}
+
+// Answers an input that is to be solved.
+fn reply_to_text<K: Sink>(
+    alloc: Global,
+    command: &Command,
+    words: &[String],
+    input: &[u8],
+    sink: &mut K,
+) -> Status
+    requires commands { Commands (map string_bytes words.now) command.now }
+    requires solving { is_solving command.now ≡ true }
+    ensures replies { Replies (AnswersInput command.now (map string_bytes words.now) input.now) (K.written sink.old) (K.written sink.new) result }
+    ensures write { result ≡ Status.WriteFault → CountsFault (K.faults sink.old) (K.faults sink.new) }
+{
     match read_graph_alone(alloc, input) {
         Ok(graph) => reply_to_graph(alloc, command, words, &graph, sink),
         Err(GraphRefusal::Fault { line, why }) => {
@@ -58,6 +79,37 @@ pub fn reply<K: Sink>(
             say(sink, status, text.as_slice())
         }
         Err(GraphRefusal::NoMemory) => Status::NoMemory,
+    }
+}
+
+// Answers an input that is to be checked.
+fn reply_to_check<K: Sink>(alloc: Global, input: &[u8], sink: &mut K) -> Status
+    ensures replies { (words : List (List ℕ)) → Replies (AnswersInput Command.Check words input.now) (K.written sink.old) (K.written sink.new) result }
+    ensures write { result ≡ Status.WriteFault → CountsFault (K.faults sink.old) (K.faults sink.new) }
+{
+    match read_graph(alloc, input) {
+        Ok((graph, count)) => reply_to_certificate(alloc, &graph, &input[count..], sink),
+        Err(GraphRefusal::Fault { line, why }) => {
+            let (status, text) = fault_line(line, why);
+            say(sink, status, text.as_slice())
+        }
+        Err(GraphRefusal::NoMemory) => Status::NoMemory,
+    }
+}
+
+// Accepts or rejects what follows a graph.
+fn reply_to_certificate<K: Sink>(alloc: Global, graph: &Graph, bytes: &[u8], sink: &mut K) -> Status
+    requires { IsWithinSize graph.now }
+    ensures replies { Replies (AnswersCheck graph.now bytes.now) (K.written sink.old) (K.written sink.new) result }
+    ensures write { result ≡ Status.WriteFault → CountsFault (K.faults sink.old) (K.faults sink.new) }
+{
+    match check(alloc, graph, bytes) {
+        Ok(()) => say(sink, Status::Done, b"accepted\n"),
+        Err(Rejection::NoMemory) => Status::NoMemory,
+        Err(why) => {
+            let text = rejected_line(why);
+            say(sink, Status::Rejected, text.as_slice())
+        }
     }
 }
 
@@ -70,6 +122,7 @@ fn reply_to_graph<K: Sink>(
     sink: &mut K,
 ) -> Status
     requires commands { Commands (map string_bytes words.now) command.now }
+    requires solving { is_solving command.now ≡ true }
     requires size { IsWithinSize graph.now }
     ensures replies { Replies (AnswersGraph command.now (map string_bytes words.now) graph.now) (K.written sink.old) (K.written sink.new) result }
     ensures write { result ≡ Status.WriteFault → CountsFault (K.faults sink.old) (K.faults sink.new) }

@@ -2,10 +2,12 @@ ghost use Rattle.std.specs.Prelude.{◌≡◌, ◌≤◌, ◌++◌, ◌+◌, len
 ghost use Rattle.arrayvec.specs.ArrayVec.{array_vec_len};
 ghost use Rattle.connect_run.specs.WordsCase.{words_text};
 ghost use Rattle.connect_run.specs.FaultCase.{why_word, fault_status, fault_text, graph_text, large_text};
+ghost use Rattle.connect_run.specs.CheckCase.{malformed_text, rejected_text};
 ghost use Rattle.connect_run.specs.UnsuitedCase.{misfit_word, unsuited_text};
 
 use crate::Status;
 use arrayvec::ArrayVec;
+use certificate_checker::Rejection;
 use graph_text::Why;
 use itoa::Buffer;
 use problem_defs::Misfit;
@@ -73,6 +75,40 @@ pub fn unsuited_line(misfit: Misfit) -> ShortLine
     push_part(&mut text, b"unsuited ");
     push_part(&mut text, word);
     push_part(&mut text, b"\n");
+    text
+}
+
+/// The answer to a certificate that is rejected.
+pub fn rejected_line(why: Rejection) -> ShortLine
+    requires { why ≡ Rejection.NoMemory → ⊥ }
+    ensures { result.items ≡ rejected_text why }
+{
+    match why {
+        Rejection::Malformed { line } => malformed_line(line),
+        Rejection::Infeasible => line_of(b"rejected infeasible\n"),
+        Rejection::BadDual => line_of(b"rejected dual\n"),
+        Rejection::Gap => line_of(b"rejected gap\n"),
+        Rejection::NoMemory => line_of(b""),
+    }
+}
+
+fn malformed_line(line: usize) -> ShortLine
+    ensures { result.items ≡ malformed_text line }
+{
+    let mut buffer = Buffer::new();
+    let mut text = ShortLine::new();
+    push_part(&mut text, b"rejected malformed ");
+    push_part(&mut text, buffer.format(line).as_bytes());
+    push_part(&mut text, b"\n");
+    text
+}
+
+fn line_of(part: &[u8]) -> ShortLine
+    requires { length part.now ≤ 64 }
+    ensures { result.items ≡ part.now }
+{
+    let mut text = ShortLine::new();
+    push_part(&mut text, part);
     text
 }
 

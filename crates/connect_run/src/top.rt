@@ -81,7 +81,7 @@ fn command_of(words: &[String]) -> Result<Command, usize>
 fn is_built(command: &Command) -> bool
     ensures { result ≡ is_built command.now }
 {
-    matches!(command, Command::Flow | Command::CutTree)
+    matches!(command, Command::Check | Command::Flow | Command::CutTree)
 }
 
 fn serve_command<S: Source, K: Sink>(

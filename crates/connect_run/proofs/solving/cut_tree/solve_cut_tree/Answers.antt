@@ -1,4 +1,3 @@
-use Rattle.problem_defs.proofs.Suited.{cut_tree_suits}
 use Rattle.problem_defs.proofs.TreeCert.{tree-meets}
 use Rattle.connect_run.proofs.solving.cut_tree.solve_cut_tree.Goals as goal
 
