@@ -4,8 +4,12 @@ use std::test::Fail;
 const SQUARE: &[u8] =
     b"graph undirected\nnode a\nnode b\nnode c\nnode d\nedge a b\nedge b d\nedge a c\nedge c d\nend\n";
 
+// A ring of twelve nodes and four chords, with comments, tabs and CR LF.
+const BACKBONE: &[u8] =
+    b"# backbone, ring and four chords\r\ngraph undirected\r\n\r\nnode s1\r\nnode s2\r\nnode s3\r\nnode s4\r\nnode s5\r\nnode s6\r\nnode s7\r\nnode s8\r\nnode s9\r\nnode s10\r\nnode s11\r\nnode s12\r\n# ring\r\nedge\ts1\ts2\r\nedge\ts2\ts3\r\nedge\ts3\ts4\r\nedge\ts4\ts5\r\nedge\ts5\ts6\r\nedge\ts6\ts7\r\nedge\ts7\ts8\r\nedge\ts8\ts9\r\nedge\ts9\ts10\r\nedge\ts10\ts11\r\nedge\ts11\ts12\r\nedge\ts12\ts1\r\n# chords\r\nedge\ts1\ts7\r\nedge\ts2\ts8\r\nedge\ts3\ts9\r\nedge\ts4\ts10\r\nend\r\n";
+
 // Words, input, the whole text and the exit number.
-const WHOLE: [(&str, &[u8], &[u8], u8); 28] = [
+const WHOLE: [(&str, &[u8], &[u8], u8); 30] = [
     // No word goes on; the source isn't read.
     ("", b"", b"words 1\n", 3),
     ("flow a", b"", b"words 3\n", 3),
@@ -15,6 +19,13 @@ const WHOLE: [(&str, &[u8], &[u8], u8); 28] = [
     ("trial flow 40 x", b"", b"words 4\n", 3),
     // Commands that aren't built.
     ("trees", b"", b"words 1\n", 3),
+    ("check x", b"", b"words 2\n", 3),
+    (
+        "check",
+        b"graph undirected\nnode a\n",
+        b"graph 3 noend\n",
+        4,
+    ),
     ("trial flow 40 7", b"", b"words 1\n", 3),
     // The first fault of the graph text.
     ("flow a b", b"", b"graph 1 header\n", 4),
@@ -118,7 +129,19 @@ const WHOLE: [(&str, &[u8], &[u8], u8); 28] = [
 ];
 
 // Words, input, how the text begins and the exit number.
-const BEGUN: [(&str, &[u8], &[u8], u8); 4] = [
+const BEGUN: [(&str, &[u8], &[u8], u8); 6] = [
+    (
+        "flow s1 s4",
+        BACKBONE,
+        b"certificate 1\ncommand flow s1 s4\nvalue 3\npath ",
+        0,
+    ),
+    (
+        "cuttree",
+        BACKBONE,
+        b"certificate 1\ncommand cuttree\ntree ",
+        0,
+    ),
     (
         "flow a d",
         SQUARE,
