@@ -12,7 +12,7 @@ from pathlib import Path
 import graphs as plain
 
 SOLVED = ["flow", "cuttree"]
-CHECKED = ["flow"]
+CHECKED = ["flow", "cuttree"]
 HERE = Path(__file__).resolve().parent
 EXIT = {"rejected": 2, "words": 3, "graph": 4, "large": 5, "unsuited": 6}
 

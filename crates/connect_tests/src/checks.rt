@@ -1,3 +1,4 @@
+use crate::answers::BACKBONE;
 use crate::run::answer;
 use std::alloc::{AllocError, Global};
 use std::test::Fail;
@@ -105,8 +106,24 @@ const CHECKS: [(&[u8], &[u8], &[u8], u8); 15] = [
     ),
 ];
 
+// Pairs of nodes, and what `check` says of them as a cut tree of the path.
+const TREES: [(&[u8], &[u8]); 8] = [
+    (b"tree a b 1\ntree b c 1\n", b"accepted\n"),
+    (b"tree c b 1\ntree a b 1\n", b"accepted\n"),
+    (b"tree a b 1\ntree b c 2\n", b"rejected dual\n"),
+    (b"tree a b 0\ntree b c 1\n", b"rejected dual\n"),
+    // The side of a and b holds c, too, and two edges leave it.
+    (b"tree a b 1\ntree a c 1\n", b"rejected dual\n"),
+    (b"tree a b 1\n", b"rejected infeasible\n"),
+    (b"tree a b 1\ntree b a 1\n", b"rejected infeasible\n"),
+    (b"tree a b 1\ntree c c 1\n", b"rejected infeasible\n"),
+];
+
 // A command and its graph.
-const SOLVED: [(&str, &[u8]); 5] = [
+const SOLVED: [(&str, &[u8]); 8] = [
+    ("cuttree", SQUARE),
+    ("cuttree", PATH),
+    ("cuttree", BACKBONE),
     ("flow a d", SQUARE),
     ("flow b c", SQUARE),
     ("flow a c", ARCS),
@@ -127,6 +144,13 @@ fn certificates_are_accepted_or_rejected(rt: HostRuntime) -> Result<(), Fail> {
         let (written, status) = answer(alloc, "check", &joined(alloc, graph, rest)?)?;
         assert_eq!(rt; written.as_slice(), text);
         assert_eq!(rt; status, number);
+    }
+    for (pairs, text) in TREES {
+        let mut rest = Vec::from_slice(alloc, b"certificate 1\ncommand cuttree\n")?;
+        rest.extend_from_slice(pairs)?;
+        rest.extend_from_slice(b"end\n")?;
+        let (written, _) = answer(alloc, "check", &joined(alloc, PATH, &rest)?)?;
+        assert_eq!(rt; written.as_slice(), text);
     }
     for (words, graph) in SOLVED {
         let (certificate, _) = answer(alloc, words, graph)?;

@@ -4,9 +4,13 @@
 #[cfg(test)]
 mod answers;
 #[cfg(test)]
+mod best;
+#[cfg(test)]
 mod checks;
 #[cfg(test)]
 mod streams;
+#[cfg(test)]
+mod texts;
 
 #[cfg(test)]
 mod run {
