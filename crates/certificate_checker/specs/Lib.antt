@@ -5,3 +5,4 @@ pub mod Judged
 pub mod Malformed
 pub mod Marks
 pub mod Reason
+pub mod TreeSides

@@ -8,6 +8,7 @@ ghost use Rattle.certificate_checker.specs.Checked.{is_checked};
 ghost use Rattle.certificate_checker.specs.Judged.{IsJudged};
 ghost use Rattle.certificate_checker.specs.Reason.{IsReason};
 
+use crate::cut_tree::judge_cut_tree;
 use crate::flow::judge_flow;
 use crate::rejection::Rejection;
 use certificate_text::{CertRefusal, read_cert};
@@ -20,7 +21,7 @@ fn is_checked(ask: Ask) -> bool
     ensures { result ≡ is_checked ask }
 {
     match ask {
-        Ask::Flow { .. } => true,
+        Ask::Flow { .. } | Ask::CutTree => true,
         _ => false,
     }
 }
@@ -48,6 +49,7 @@ fn judge(alloc: Global, graph: &Graph, cert: &Cert) -> Result<(), Rejection>
             rows,
             cut,
         ),
+        (Ask::CutTree, Body::Tree(pairs)) => judge_cut_tree(alloc, graph, pairs),
         _ => unreachable!("the body belongs to the ask"),
     }
 }

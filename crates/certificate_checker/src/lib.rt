@@ -2,9 +2,11 @@
 #![tactic(auto)]
 
 mod answer;
+mod cut_tree;
 mod flow;
 mod law;
 mod marks;
+mod reach;
 mod rejection;
 
 pub use answer::check;

@@ -1,4 +1,4 @@
-//! Certificates of walks across a square, right and wrong.
+//! Certificates of walks across a square and of its cut trees, right and wrong.
 
 ghost use Rattle.std.specs.Prelude.{◌≡◌, IfOk};
 ghost use Rattle.graph_core.specs.Graph.{IsWithinSize, line_of};
@@ -89,6 +89,50 @@ fn walks_across_a_square(rt: HostRuntime) -> Result<(), Fail> {
         (ZERO, Err(Rejection::Malformed { line: 3 })),
         (UNCHECKED, Err(Rejection::Malformed { line: 2 })),
         ("", Err(Rejection::Malformed { line: 1 })),
+    ] {
+        let answer = check(rt.alloc(), &graph, text.as_bytes());
+        assert_eq!(rt; answer, want, "{text}");
+    }
+    Ok(())
+}
+
+const TREE: &str = "certificate 1\ncommand cuttree\ntree a b 2\ntree b d 2\ntree d c 2\nend\n";
+
+const OTHER_ORDER: &str =
+    "certificate 1\ncommand cuttree\ntree c d 2\ntree a b 2\ntree d b 2\nend\n";
+
+const STAR: &str = "certificate 1\ncommand cuttree\ntree a b 2\ntree a c 2\ntree a d 2\nend\n";
+
+const ONE_LESS: &str = "certificate 1\ncommand cuttree\ntree a b 2\ntree b d 1\ntree d c 2\nend\n";
+
+const ONE_MORE: &str = "certificate 1\ncommand cuttree\ntree a b 2\ntree b d 3\ntree d c 2\nend\n";
+
+const LARGER_CUT: &str =
+    "certificate 1\ncommand cuttree\ntree a d 2\ntree a b 2\ntree b c 2\nend\n";
+
+const ITS_WEIGHT: &str =
+    "certificate 1\ncommand cuttree\ntree a d 2\ntree a b 4\ntree b c 2\nend\n";
+
+const PAIR_SHORT: &str = "certificate 1\ncommand cuttree\ntree a b 2\ntree b d 2\nend\n";
+
+const CIRCUIT: &str = "certificate 1\ncommand cuttree\ntree a b 2\ntree b d 2\ntree d a 2\nend\n";
+
+const TWICE: &str = "certificate 1\ncommand cuttree\ntree a b 2\ntree b a 2\ntree d c 2\nend\n";
+
+#[test]
+fn cut_trees_of_a_square(rt: HostRuntime) -> Result<(), Fail> {
+    let graph = square(rt.alloc())?;
+    for (text, want) in [
+        (TREE, Ok(())),
+        (OTHER_ORDER, Ok(())),
+        (STAR, Ok(())),
+        (ONE_LESS, Err(Rejection::BadDual)),
+        (ONE_MORE, Err(Rejection::BadDual)),
+        (LARGER_CUT, Err(Rejection::BadDual)),
+        (ITS_WEIGHT, Err(Rejection::BadDual)),
+        (PAIR_SHORT, Err(Rejection::Infeasible)),
+        (CIRCUIT, Err(Rejection::Infeasible)),
+        (TWICE, Err(Rejection::Infeasible)),
     ] {
         let answer = check(rt.alloc(), &graph, text.as_bytes());
         assert_eq!(rt; answer, want, "{text}");

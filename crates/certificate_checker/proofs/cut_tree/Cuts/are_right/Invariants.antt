@@ -1,0 +1,10 @@
+use Rattle.std.proofs.Common.{◌≡◌, ◌<◌, ℕ}
+use Rattle.problem_defs.specs.CutTree.{IsLeastCut}
+use Rattle.certificate_checker.specs.TreeSides.{pair_at}
+use Rattle.certificate_checker.proofs.cut_tree.Cuts.are_right.Given as goal
+
+abbrev pub invariant-loop-j : goal.invariant-loop-j
+invariant-loop-j l = record {
+  same : l.self.graph.now ≡ l.initial.self.graph.now;
+  right : (k : ℕ) → k < l.j → IsLeastCut l.initial.self.graph.now l.pairs (pair_at l.pairs k).0 (pair_at l.pairs k).1 (pair_at l.pairs k).2;
+}

@@ -1,0 +1,70 @@
+ghost use Rattle.std.specs.Prelude.{◌≡◌, ℕ, ◌+◌, ◌<◌, ◌≤◌, ◌++◌, true, false, All, length, replicate};
+ghost use Rattle.std.specs.Bool.{OnTrue, OnFalse};
+ghost use Rattle.graph_core.specs.Side.{has, size};
+ghost use Rattle.certificate_checker.specs.TreeSides.{AddsOther, AreUncrossed, IsGrown, IsReach};
+
+use graph_core::Side;
+
+/// Adds the other node of a pair that crosses the side.
+fn add_other(side: &mut Side, u: u32, v: u32) -> bool
+    requires u { u < length side.old }
+    requires v { v < length side.old }
+    ensures across { OnTrue result (AddsOther u v side.old side.new) }
+    ensures along { OnFalse result ((side.new ≡ side.old) × (has side.old u ≡ has side.old v)) }
+{
+    let has_u = side.has(u);
+    let has_v = side.has(v);
+    if has_u && !has_v {
+        side.put(v, true);
+        return true;
+    }
+    if has_v && !has_u {
+        side.put(u, true);
+        return true;
+    }
+    false
+}
+
+/// Adds the other node of each pair that crosses the side, in one pass. Whether there was such a pair.
+fn spread(side: &mut Side, pairs: &[(u32, u32, u64)]) -> bool
+    requires nodes { All (λ p. (p.0 < length side.old) × (p.1 < length side.old)) pairs.now }
+    ensures grown { IsGrown pairs.now side.old side.new }
+    ensures more { OnTrue result (size side.old < size side.new) }
+    ensures done { OnFalse result ((side.new ≡ side.old) × AreUncrossed side.new pairs.now) }
+{
+    let mut added = false;
+    for pair in pairs {
+        if add_other(side, pair.0, pair.1) {
+            added = true;
+        }
+    }
+    added
+}
+
+/// Adds what the pairs connect to the side.
+fn grow(side: &mut Side, before: &[(u32, u32, u64)], behind: &[(u32, u32, u64)])
+    requires before { All (λ p. (p.0 < length side.old) × (p.1 < length side.old)) before.now }
+    requires behind { All (λ p. (p.0 < length side.old) × (p.1 < length side.old)) behind.now }
+    ensures grown { IsGrown (before.now ++ behind.now) side.old side.new }
+    ensures done { AreUncrossed side.new (before.now ++ behind.now) }
+{
+    let mut more = true;
+    while more {
+        let first = spread(side, before);
+        let second = spread(side, behind);
+        more = first || second;
+    }
+}
+
+/// Makes the side what pair `j`'s first node reaches by the other pairs.
+pub fn reach(side: &mut Side, none: &Side, pairs: &[(u32, u32, u64)], j: usize)
+    requires nodes { All (λ p. (p.0 < length side.old) × (p.1 < length side.old)) pairs.now }
+    requires none { none.now ≡ replicate (length side.old) false }
+    requires j { j < length pairs.now }
+    ensures { IsReach (length side.old) pairs.now j side.new }
+{
+    let u = pairs[j].0;
+    side.set_to(none);
+    side.put(u, true);
+    grow(side, &pairs[..j], &pairs[j + 1..]);
+}
