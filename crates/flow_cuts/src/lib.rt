@@ -11,8 +11,6 @@ mod network;
 mod residual;
 mod search;
 mod sides;
-#[cfg(test)]
-mod tests;
 mod walks;
 
 pub use certified::most_walks;
