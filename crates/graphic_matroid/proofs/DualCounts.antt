@@ -6,6 +6,7 @@ use Rattle.std.proofs.lemmas.Bool.{cases_Bool, and_parts}
 use Rattle.std.proofs.lemmas.List.Elements.{All-from_get_or, All-weaker}
 use Rattle.graph_core.specs.Side.{has, size, IsNonempty}
 use Rattle.graph_core.specs.Lines.{within, parted, between, induced}
+use Rattle.graph_core.specs.Families.{IsPartition}
 use Rattle.graph_core.specs.Graph.{Fits}
 use Rattle.graph_core.specs.Picked.{picked, occurrences}
 use Rattle.graph_core.specs.Trees.{IsAcyclic}
@@ -38,6 +39,19 @@ weighed-where p (l ∷ ls) times h =
     let here : cond (p l) (times 0) 0 ≡ 0 = ap (λ b. cond b (times 0) 0) f in
     omega (arith, count-cons p l ls, weight_false (p l) f))
     (cases_Bool (p l))
+
+-- a partition has no more classes than nodes
+pub length-partition : (n : ℕ) (P : List (List Bool)) → IsPartition n P → length P ≤ n
+length-partition n P part =
+    let some : All (λ X. 1 ≤ size X) P = All-weaker (IsNonempty n) (λ X. 1 ≤ size X) (λ X h. size-nonempty X h.some_in) P part.nonempty in
+    omega (arith, length-le-sum_by size P some, sum_by-size_of_partition n P part)
+
+-- the most lines, without a difference
+pub most-sum : (n : ℕ) (ls : List Line) (k : ℕ) (rows : List (List ℕ)) (P : List (List Bool)) → AreMostForests n ls k rows P → sum_by length rows + k * length P ≡ between P ls + k * n
+most-sum n ls k rows P m =
+    let few = length-partition n P m.partition in
+    let apart : n ≡ (n - length P) + length P = omega arith in
+    omega (arith, m.most, ap (λ x. k * x) apart)
 
 -- s + p k = n k + e, with n = p + d
 lacking : (s p n k e d : ℕ) → s + p * k ≡ n * k + e → n ≡ p + d → s ≡ e + k * d
@@ -96,17 +110,11 @@ module _ (n : ℕ) (ls : List Line) (fits : All (Fits n) ls) (k : ℕ) (rows : L
       let nodes : sum_by (λ _. n) rows ≡ n * k = sum_by-same n rows ∙ ap (λ m. n * m) u.many in
       omega (arith, joining)
 
-  -- no more classes than nodes
-  classes_few : length P ≤ n
-  classes_few =
-      let some : All (λ X. 1 ≤ size X) P = All-weaker (IsNonempty n) (λ X. 1 ≤ size X) (λ X h. size-nonempty X h.some_in) P w.partition.nonempty in
-      omega (arith, length-le-sum_by size P some, sum_by-size_of_partition n P w.partition)
-
   pub most_forests : AreMostForests n ls k rows P
   most_forests = record {
     many = u.many;
     forests = rows_are_forests n ls k rows reached u;
     disjoint = u.distinct;
     partition = w.partition;
-    most = lacking (sum_by length rows) (length P) n k (between P ls) (n - length P) total (let few = classes_few in omega arith);
+    most = lacking (sum_by length rows) (length P) n k (between P ls) (n - length P) total (let few = length-partition n P w.partition in omega arith);
   }
