@@ -12,6 +12,7 @@ use Rattle.graph_core.specs.Picked.{picked}
 use Rattle.graph_core.specs.Trees.{IsForest, IsSpanningTree}
 use Rattle.graph_core.specs.declared.graph.Line.{Line}
 use Rattle.graph_core.proofs.Counting.{weight, All-both, All-picked, length-all_picked, sum_by-ones}
+use Rattle.graphic_matroid.specs.Counts.{size-all}
 use Rattle.graphic_matroid.specs.Forests.{AreMostForests}
 use Rattle.graphic_matroid.proofs.DualCounts.{most-sum}
 use Rattle.problem_defs.specs.Trees.{IsFeasible, IsDual}
@@ -37,11 +38,6 @@ two_or_more e k p h =
     (λ none. let product = ap (λ x. k * x) (let e : p ≡ 0 = omega arith in e) in omega arith)
     (cases_lt 0 p)))
     (cases_lt 1 p)
-
--- all nodes
-size-all : (n : ℕ) → size (replicate n true) ≡ n
-size-all zero = refl
-size-all (suc n) = omega (arith, sum_by-cons weight true (replicate n true), size-all n)
 
 -- a forest has fewer lines than nodes
 length-forest : (n : ℕ) (ls : List Line) → All (Fits n) ls → 1 ≤ n → (js : List ℕ) → IsForest n ls js → length js ≤ n - 1
