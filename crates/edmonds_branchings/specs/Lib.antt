@@ -1,0 +1,4 @@
+pub mod Network
+pub mod Rooted
+pub mod Round
+pub mod Row
