@@ -1,5 +1,7 @@
+pub mod Arborescence
 pub mod Begin
 pub mod Capacity
+pub mod LeastSide
 pub mod Lovasz
 pub mod Made
 pub mod MayTake

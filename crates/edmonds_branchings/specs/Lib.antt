@@ -1,3 +1,4 @@
+pub mod LeastSide
 pub mod Network
 pub mod Rooted
 pub mod Round

@@ -8,7 +8,7 @@ use graph_core::{Counts, Graph, Line, NoMemory, Side};
 use std::alloc::Global;
 
 /// The arcs turned round, each to be taken once.
-fn turned_lines(alloc: Global, lines: &[Line]) -> Result<Vec<Cap>, NoMemory>
+pub fn turned_lines(alloc: Global, lines: &[Line]) -> Result<Vec<Cap>, NoMemory>
     ensures { IfOk result (λ arcs. arcs.items ≡ map turned lines.now) }
 {
     let mut arcs = Vec::with_capacity(alloc, lines.len())?;
