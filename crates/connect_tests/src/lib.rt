@@ -11,6 +11,7 @@ mod certificates;
 mod checks;
 #[cfg(test)]
 mod flows;
+mod packings;
 #[cfg(test)]
 mod streams;
 #[cfg(test)]
