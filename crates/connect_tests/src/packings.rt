@@ -99,7 +99,7 @@ const JUDGED: [(&[u8], &[u8], &[u8]); 22] = [
     ),
     (
         K4,
-        b"command trees\nvalue 2\npart 1 4 6\npart 2 3 6\ndual partition\nset a\nset b\nset c\nset d\nend\n",
+        b"command trees\nvalue 2\npart 1 4 6\npart 2 5 6\ndual partition\nset a\nset b\nset c\nset d\nend\n",
         b"rejected infeasible\n",
     ),
     (
