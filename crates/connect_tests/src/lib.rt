@@ -11,6 +11,7 @@ mod certificates;
 mod checks;
 #[cfg(test)]
 mod flows;
+#[cfg(test)]
 mod packings;
 #[cfg(test)]
 mod streams;
