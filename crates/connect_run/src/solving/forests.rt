@@ -1,5 +1,4 @@
 ghost use Rattle.std.specs.Prelude.{◌≡◌, IfOk, None};
-ghost use Rattle.graph_core.specs.Graph.{IsWithinSize};
 ghost use Rattle.problem_defs.specs.Ask.{misfit_of};
 ghost use Rattle.problem_defs.specs.Meets.{Meets};
 ghost use Rattle.connect_run.specs.PartsDual.{parts_dual};
@@ -11,8 +10,7 @@ use std::alloc::Global;
 
 /// Fewest forests that cover the edges, with a side that many edges lie within.
 pub fn solve_forests(alloc: Global, graph: &Graph) -> Result<Cert, NoMemory>
-    requires size { IsWithinSize graph.now }
-    requires suits { misfit_of graph.now Ask.Forests ≡ None }
+    requires { misfit_of graph.now Ask.Forests ≡ None }
     ensures ask { IfOk result (λ cert. cert.ask ≡ Ask.Forests) }
     ensures meets { IfOk result (λ cert. Meets graph.now cert) }
 {

@@ -1,5 +1,4 @@
 ghost use Rattle.std.specs.Prelude.{◌≡◌, IfOk, None};
-ghost use Rattle.graph_core.specs.Graph.{IsWithinSize};
 ghost use Rattle.problem_defs.specs.Ask.{misfit_of};
 ghost use Rattle.problem_defs.specs.Meets.{Meets};
 
@@ -10,8 +9,7 @@ use tree_packing::pack_trees;
 
 /// Most edge-disjoint spanning trees, with a partition that few edges join.
 pub fn solve_trees(alloc: Global, graph: &Graph) -> Result<Cert, NoMemory>
-    requires size { IsWithinSize graph.now }
-    requires suits { misfit_of graph.now Ask.Trees ≡ None }
+    requires { misfit_of graph.now Ask.Trees ≡ None }
     ensures ask { IfOk result (λ cert. cert.ask ≡ Ask.Trees) }
     ensures meets { IfOk result (λ cert. Meets graph.now cert) }
 {

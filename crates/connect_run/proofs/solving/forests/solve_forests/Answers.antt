@@ -18,14 +18,14 @@ forests-meet : (g : GraphValue) (rows : List (List ℕ)) (dual : ForestDual) →
 forests-meet g rows Nothing graph suits feasible dual equal = nothing-meets g rows suits feasible equal
 forests-meet g rows (Induced side) graph suits feasible dual equal = covers-meet g rows side graph suits feasible dual equal
 
-pub cover_forests-requires-clause-suits : goal.cover_forests-requires-clause-suits
-cover_forests-requires-clause-suits c = forests_suits c.args.graph.now c.requires.suits
+pub cover_forests-requires : goal.cover_forests-requires
+cover_forests-requires c = forests_suits c.args.graph.now c.requires
 
 pub returns-clause-meets : goal.returns-clause-meets
 returns-clause-meets c =
     let g = c.args.graph.now in
     let found = c.in_ok-object.field-0 in
     let certified = c.in_ok-object.ensures.certified in
-    let meets = forests-meet g found.object found.dual c.known.ensures c.requires.suits certified.feasible certified.dual_feasible certified.equal in
+    let meets = forests-meet g found.object found.dual c.known.ensures c.requires certified.feasible certified.dual_feasible certified.equal in
     let written = subst (λ (d : PartsDual). Meets g (record { ask = Forests; body = Parts (length found.object) found.object d })) (sym c.parts_dual.ensures) meets in
     subst (λ (n : ℕ). Meets g (record { ask = Forests; body = Parts n found.object c.parts_dual.result })) (sym c.len.ensures) written
