@@ -9,9 +9,10 @@ use Rattle.graph_core.specs.Lines.{within, parted, between, induced}
 use Rattle.graph_core.specs.Families.{IsPartition}
 use Rattle.graph_core.specs.Graph.{Fits}
 use Rattle.graph_core.specs.Picked.{picked, occurrences}
-use Rattle.graph_core.specs.Trees.{IsAcyclic}
+use Rattle.graph_core.specs.Walks.{AreDisjoint}
+use Rattle.graph_core.specs.Trees.{IsForest, IsAcyclic}
 use Rattle.graph_core.specs.declared.graph.Line.{Line}
-use Rattle.graph_core.proofs.Counting.{weight, weighed, passes, sum_by-add, sum_by-agree, sum_by-same, sum_by-concat, length-le-sum_by, count_by-picked, count_by-picks, length-all_picked, All-picked}
+use Rattle.graph_core.proofs.Counting.{weight, weighed, passes, sum_by-add, sum_by-agree, sum_by-same, sum_by-le_each, rows-le, sum_by-concat, length-le-sum_by, count_by-picked, count_by-picks, length-all_picked, All-picked}
 use Rattle.graph_core.proofs.FamilyLaws.{between-and-within, sum_by-size_of_partition, size-nonempty}
 use Rattle.matroid_union.specs.Sets.{set_of}
 use Rattle.matroid_union.specs.Union.{names, row, IsUnion}
@@ -53,6 +54,34 @@ most-sum n ls k rows P m =
     let apart : n ≡ (n - length P) + length P = omega arith in
     omega (arith, m.most, ap (λ x. k * x) apart)
 
+-- any disjoint forests have no more lines than a partition allows
+module _ (n : ℕ) (ls : List Line) (fits : All (Fits n) ls) (P : List (List Bool)) (part : IsPartition n P) where
+  -- a row's lines, with one more for each class
+  row-split : (js : List ℕ) → All (λ j. j < length ls) js → length js + length P ≡ between P (picked ls js) + sum_by (λ C. induced C (picked ls js) + 1) P
+  row-split js inside =
+      let apart = sum_by-add (λ C. induced C (picked ls js)) (λ _. 1) P in
+      let ones = sum_by-same 1 P in
+      let split = between-and-within n P part (picked ls js) (All-picked (Fits n) ls js fits) in
+      let many = length-all_picked ls js inside in
+      omega arith
+
+  row-most : (js : List ℕ) → IsForest n ls js → length js + length P ≤ n + between P (picked ls js)
+  row-most js f =
+      let thin : All (λ C. induced C (picked ls js) + 1 ≤ size C) P = All-weaker (IsNonempty n) (λ C. induced C (picked ls js) + 1 ≤ size C) (λ C h. let less : induced C (picked ls js) < size C = f.acyclic C h in omega arith) P part.nonempty in
+      let most = sum_by-le_each (λ C. induced C (picked ls js) + 1) size P thin in
+      omega (arith, sum_by-size_of_partition n P part, row-split js f.picks.in_range)
+
+  pub rows-most : (rows : List (List ℕ)) → All (IsForest n ls) rows → AreDisjoint rows → sum_by length rows + length rows * length P ≤ between P ls + length rows * n
+  rows-most rows forests disjoint =
+      let each : All (λ js. length js + length P ≤ n + between P (picked ls js)) rows = All-weaker (IsForest n ls) (λ js. length js + length P ≤ n + between P (picked ls js)) row-most rows forests in
+      let le = sum_by-le_each (λ js. length js + length P) (λ js. n + between P (picked ls js)) rows each in
+      let left = sum_by-add length (λ _. length P) rows in
+      let right = sum_by-add (λ _. n) (λ js. between P (picked ls js)) rows in
+      let classes = sum_by-same (length P) rows in
+      let nodes = sum_by-same n rows in
+      let joining = rows-le (parted P) ls rows disjoint in
+      omega arith
+
 -- s + p k = n k + e, with n = p + d
 lacking : (s p n k e d : ℕ) → s + p * k ≡ n * k + e → n ≡ p + d → s ≡ e + k * d
 lacking s p n k e d h i = omega (arith, h, ap (λ m. m * k) i)
@@ -76,12 +105,8 @@ module _ (n : ℕ) (ls : List Line) (fits : All (Fits n) ls) (k : ℕ) (rows : L
   row_lines : (p : ℕ) → p < k → length (row rows p) + length P ≡ n + between P (lines_of p)
   row_lines p lp =
       let exact = sum_by-agree (λ C. induced C (lines_of p) + 1) size P (class_exact p lp) in
-      let apart = sum_by-add (λ C. induced C (lines_of p)) (λ _. 1) P in
-      let ones = sum_by-same 1 P in
-      let nodes = sum_by-size_of_partition n P w.partition in
-      let split = between-and-within n P w.partition (lines_of p) (All-picked (Fits n) ls (row rows p) fits) in
-      let many = length-all_picked ls (row rows p) (row_is_forest n ls k rows reached u p lp).picks.in_range in
-      omega arith
+      let split = row-split n ls fits P w.partition (row rows p) (row_is_forest n ls k rows reached u p lp).picks.in_range in
+      omega (arith, sum_by-size_of_partition n P w.partition)
 
   -- a line that joins two classes isn't reached, so a row has it
   joining_once : (j : ℕ) (d : Line) → j < length ls → parted P (get_or ls j d) ≡ true → occurrences j (concat rows) ≡ 1

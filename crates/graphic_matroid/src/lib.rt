@@ -8,7 +8,7 @@ mod packed;
 
 pub use component::components;
 pub use graphic::Graphic;
-pub use packed::{Forests, most_forests};
+pub use packed::{Forests, most_forests, no_more_lines};
 
 #[cfg(test)]
 mod tests;

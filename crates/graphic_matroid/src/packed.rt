@@ -1,4 +1,6 @@
-ghost use Rattle.std.specs.Prelude.{length, IfOk};
+ghost use Rattle.std.specs.Prelude.{◌≤◌, length, sum_by, All, IfOk};
+ghost use Rattle.graph_core.specs.Trees.{IsForest};
+ghost use Rattle.graph_core.specs.Walks.{AreDisjoint};
 ghost use Rattle.graphic_matroid.specs.Forests.{AreMostForests};
 
 use crate::component::components;
@@ -26,4 +28,14 @@ pub fn most_forests(alloc: Global, graph: &Graph, k: u32) -> Result<Forests, NoM
         rows: parts,
         classes,
     })
+}
+
+/// As many other disjoint forests have no more lines.
+pub fn no_more_lines(graph: &Graph, found: &Forests, other: &NumberRows)
+    requires most { AreMostForests (length graph.now.names) graph.now.lines (length other.now) found.now.rows found.now.classes }
+    requires forests { All (IsForest (length graph.now.names) graph.now.lines) other.now }
+    requires disjoint { AreDisjoint other.now }
+    ensures { sum_by length other.now ≤ sum_by length found.now.rows }
+{
+    graph.known();
 }
