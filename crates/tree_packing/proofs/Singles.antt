@@ -14,7 +14,8 @@ use Rattle.matroid_union.proofs.Sizes.{has_of}
 use Rattle.graphic_matroid.specs.Chosen.{chosen}
 use Rattle.graphic_matroid.specs.ChosenLaws.{chosen-none}
 use Rattle.graphic_matroid.specs.Components.{AreComponents}
-use Rattle.graphic_matroid.specs.Counts.{size-none, has-short}
+use Rattle.graph_core.proofs.SizeLaws.{size-none}
+use Rattle.graph_core.proofs.SideLaws.{has-below}
 
 -- a side of one node, of two or more
 pub alone-proper : (n v : ℕ) → 2 ≤ n → v < n → IsProper n (set (replicate n false) v true)
@@ -53,8 +54,8 @@ singles n m ls P w =
         ⊎_elim (λ e. e)
         (λ ne.
         let long : length (get_or P i d) ≡ n = (w.partition.nonempty i d l).long in
-        let lu : u < n = subst (λ m. u < m) long (has-short (get_or P i d) u a) in
-        let lv : v < n = subst (λ m. v < m) long (has-short (get_or P i d) v b) in
+        let lu : u < n = subst (λ m. u < m) long (has-below (get_or P i d) u a) in
+        let lv : v < n = subst (λ m. v < m) long (has-below (get_or P i d) v b) in
         let at_u : has (set_of n (λ x. eqb x u)) u ≡ true = has_of n (λ x. eqb x u) u lu ∙ eq-eqb u u refl in
         let at_v : has (set_of n (λ x. eqb x u)) v ≡ false = has_of n (λ x. eqb x u) v lv ∙ ne_eqb v u (λ e. ne (sym e)) in
         let some = w.joined (set_of n (λ x. eqb x u)) i d l u v a b at_u at_v in
