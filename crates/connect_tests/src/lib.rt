@@ -12,6 +12,8 @@ mod checks;
 #[cfg(test)]
 mod flows;
 #[cfg(test)]
+mod packings;
+#[cfg(test)]
 mod streams;
 #[cfg(test)]
 mod texts;
