@@ -1,4 +1,4 @@
-ghost use Rattle.std.specs.Prelude.{◌≡◌, ◌⊎◌, ◌<◌, ◌≤◌, [], ◌∷◌, length, replicate, IfOk};
+ghost use Rattle.std.specs.Prelude.{◌≡◌, ◌<◌, ◌≤◌, [], ◌∷◌, length, replicate, IfOk};
 ghost use Rattle.graph_core.specs.Side.{complement, IsProper};
 ghost use Rattle.problem_defs.specs.Trees.{Suits, IsDual};
 
