@@ -145,6 +145,11 @@ fn combined(alloc: Global, x: &Side, y: &Side) -> Result<Sides, NoMemory>
     let mut z = x.copy(alloc)?;
     z.set_to(y);
     all.push(z)?;
+    let mut z = x.copy(alloc)?;
+    if z.len() > 2 {
+        z.hold_only(2);
+    }
+    all.push(z)?;
     let mut both = pair(alloc, x, y)?;
     both.join_items(1, 0);
     all.push(both.remove(1))?;
@@ -165,6 +170,7 @@ fn sides_and_lists_change_as_sets_and_lists_do(rt: HostRuntime) -> Result<(), Fa
         ("difference", [true, false, false, false]),
         ("complement", [false, false, true, true]),
         ("the other", [false, true, true, false]),
+        ("the third node alone", [false, false, true, false]),
         ("union in a list", [true, true, true, false]),
         ("first without second", [true, false, false, false]),
         ("second without first", [false, false, true, false]),

@@ -1,4 +1,5 @@
 pub mod Suited
 pub mod BestLaw
 pub mod FlowCert
+pub mod PartsCert
 pub mod TreeCert

@@ -1,3 +1,5 @@
+pub mod Arborescences
+pub mod ArborescencesLaw
 pub mod Ask
 pub mod Best
 pub mod Ceil
