@@ -1,12 +1,12 @@
 -- Counts over lists, and sizes of sides.
-use Rattle.std.proofs.Common.{ℕ, zero, suc, ◌≡◌, ◌+◌, ◌<◌, ◌≤◌, Bool, true, false, cond, ◌⊎◌, inl, inr, List, [], ◌∷◌, length, count_by, replicate, refl, ap, ◌∙◌, arith, ⊎_elim}
+use Rattle.std.proofs.Common.{ℕ, zero, suc, ◌≡◌, ◌+◌, ◌<◌, ◌≤◌, Bool, true, false, cond, ◌⊎◌, inl, inr, List, [], ◌∷◌, length, count_by, replicate, refl, ap, arith, ⊎_elim}
 use Rattle.std.specs.List.{range_with_len, sum_by}
-use Rattle.std.proofs.lemmas.Bool.{cases_eq, cases_lt, both_ways}
-use Rattle.std.proofs.lemmas.List.{get_or_past, get_or_default}
+use Rattle.std.proofs.lemmas.Bool.{cases_eq, both_ways}
+use Rattle.std.proofs.lemmas.List.{get_or_past}
 use Rattle.std.proofs.lemmas.List.Sums.{sum_by-cons, get_or-le-sum_by}
 use Rattle.graph_core.proofs.Counting.{weight}
 use Rattle.matroid_union.proofs.Sizes.{length_of}
-use Rattle.graph_core.specs.Side.{has, size, IsNonempty}
+use Rattle.graph_core.specs.Side.{has, size}
 use Rattle.matroid_union.specs.Sets.{set_of}
 
 pub weight_true : (b : Bool) → b ≡ true → weight b ≡ 1
@@ -89,14 +89,6 @@ size-all (suc n) = omega (arith, count-cons (λ b. b) true (replicate n true), s
 
 pub size-some : (X : List Bool) (v : ℕ) → v < length X → has X v ≡ true → 1 ≤ size X
 size-some X v l h = omega (arith, get_or-le-sum_by weight X v false l, weight_true (has X v) h)
-
-pub has-short : (X : List Bool) (v : ℕ) → has X v ≡ true → v < length X
-has-short X v h = ⊎_elim (λ l. l) (λ l. absurd (both_ways (has X v) (get_or_past X v false l) h)) (cases_lt v (length X))
-
-pub nonempty : (n : ℕ) (X : List Bool) (v : ℕ) → length X ≡ n → has X v ≡ true → IsNonempty n X
-nonempty n X v e h =
-    let l : v < length X = has-short X v h in
-    record { long = e; some_in = (v, l, get_or_default X v true false l ∙ h) }
 
 -- a side has a member or none
 pub some_or_none : (X : List Bool) → ((v : ℕ) × (has X v ≡ true)) ⊎ ((v : ℕ) → has X v ≡ false)
