@@ -3,16 +3,17 @@
 
 usage: bench.py [PROGRAM [RUNS [COMMAND..]]]
 
-Each time is the least of RUNS (3), in milliseconds, from the start of the process to its end. Behind it stands how often
-the time of the next smaller graph of that form goes into it. The yardstick is tools/yardstick.cpp, built where g++ is.
+Each time is the least of RUNS (5), in milliseconds of a processor, from the start of the process to its end. Behind it
+stands how often the time of the next smaller graph of that form goes into it. The yardstick is tools/yardstick.cpp, built
+where a C++ compiler is; its values are compared with the program's.
 """
 
 import random
+import resource
 import shutil
 import subprocess
 import sys
 import tempfile
-import time
 from pathlib import Path
 
 HERE = Path(__file__).resolve().parent
@@ -68,15 +69,21 @@ def text_of(n, pairs, directed):
 # ---- times
 
 def timed(words, data, runs):
-    """What the program writes, its exit number, and the least time in milliseconds."""
+    """What the program writes, its exit number, and its least time in milliseconds of a processor."""
     best = float("inf")
     for _ in range(runs):
-        start = time.perf_counter()
-        done = subprocess.run(words, input=data, capture_output=True, timeout=300)
-        best = min(best, time.perf_counter() - start)
-        if best > 5:
+        start = spent()
+        done = subprocess.run(words, input=data, capture_output=True, timeout=600)
+        best = min(best, spent() - start)
+        if best > 5_000:
             break
-    return done.stdout, done.returncode, best * 1000
+    return done.stdout, done.returncode, best
+
+
+def spent():
+    """The processor time of all processes that have ended, in milliseconds."""
+    used = resource.getrusage(resource.RUSAGE_CHILDREN)
+    return (used.ru_utime + used.ru_stime) * 1000
 
 
 def yardstick(room):
@@ -134,7 +141,7 @@ def rows(program, plain, runs, command, words_for, directed):
 
 def main(words):
     program = words[0] if words else str(HERE.parent / "crates/connect/out/connect")
-    runs = int(words[1]) if len(words) > 1 else 3
+    runs = int(words[1]) if len(words) > 1 else 5
     with tempfile.TemporaryDirectory() as room:
         plain = yardstick(room)
         for command, words_for, kinds in COMMANDS:
@@ -145,7 +152,7 @@ def main(words):
                     print(f"`{command}` isn't built yet.\n")
                     continue
                 print(f"`{command}`, {'directed' if directed else 'undirected'} graphs:\n")
-                print("| Graph | n | m | Value | Answer, ms | Check of it, ms | Yardstick, ms |\n|---|---|---|---|---|---|---|")
+                print("| Graph | n | m | Value | Answer | Check | Yardstick |\n|---|---|---|---|---|---|---|")
                 for row in rows(program, plain, runs, command, words_for, directed):
                     print("|", " | ".join(map(str, row)), "|", flush=True)
                 print()
