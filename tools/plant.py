@@ -1,13 +1,14 @@
 #!/usr/bin/env python3
 """Plants bugs by hand, and says which of them a proof refuses, and which a test.
 
-usage: plant.py [--alone] [--jobs N] [--log FILE] [NAME..]
+usage: plant.py [--alone] [--jobs N] [--log FILE] [--only WORDS] [NAME..]
 
 The bugs of a crate stand in tools/plants/NAME.txt, with blank lines between: a line that says what is wrong, and then
 the lines 'file:', 'old:' and 'new:' of a must-fail edit. They are tried in a copy of the repository. The proof of a
 function sees of the others only their contracts, so that bugs in different functions are tried by one check; with
 --alone each is tried by itself, as a must-fail edit. A bug that no proof refuses, or that is refused only since a proof
-names what it took away, is tried by itself with the tests of its crate and with those of connect_tests.
+names what it took away, is tried by itself with the tests of its crate and with those of connect_tests. --only takes the
+bugs whose title has the words (a regular expression).
 """
 
 import os
@@ -126,57 +127,56 @@ def groups(plants):
     return parts
 
 
-def try_proofs(room, crate, plants, jobs):
+def try_proofs(room, crate, plants, jobs, keep):
     folder = room / "crates" / crate
     work, seed = folder / "out/incremental", folder / "out/seed"
     said, status = rt(folder, ["check", "--jobs", str(jobs)], jobs)
     if status:
         sys.exit(f"{crate} isn't proved without a bug:\n{said[-2000:]}")
     copy_work(work, seed)
-    logs = []
     for part in groups(plants):
         copy_work(seed, work)
         with Planted(folder, part):
             said, _ = rt(folder, ["check", "--jobs", str(jobs)], jobs)
-        logs.append(said)
+        keep(said)
         for plant in part:
             plant.kind, plant.said = judged(plant, said)
     copy_work(seed, work)
     alone = [plant for plant in plants if plant.kind == "unread"]
-    return "\n".join([*logs, try_alone(room, crate, alone, jobs) if alone else ""])
+    if alone:
+        try_alone(room, crate, alone, jobs, keep)
 
 
 def judged(plant, said):
     """What a check made of a bug, and the first goal or error that it named."""
-    if "::" not in plant.function:
-        return "unread", "no function"
     found = re.search(rf"^fn {re.escape(plant.function)}: (.*)", said, re.M)
-    if not found or "waits for" in found[1]:
-        return "unread", found[1] if found else said[:300]
+    if not found:
+        return "unread", said[:300]
     if found[1] == "proved":
         return "proved", ""
+    if "did not prove" in found[1]:
+        return "refused", found[1].split("; ")[-1]
     folder = "/".join(plant.function.split("::")[1:])
     errors = re.findall(rf"^\./proofs/{re.escape(folder)}/(\w+\.antt:\d+:\d+: error: .*)", said, re.M)
     true = [error for error in errors if not NAMES_ONLY.search(error)]
-    if "did not prove" in found[1]:
-        return "refused", found[1].split("; ")[-1]
-    if errors and not true:
-        return "script", errors[0]
-    return "refused", true[0] if true else found[1]
+    if errors:
+        return ("refused", true[0]) if true else ("script", errors[0])
+    # (it may wait for the proof of a function that it calls)
+    return "unread", found[1]
 
 
-def try_alone(room, crate, plants, jobs):
+def try_alone(room, crate, plants, jobs, keep):
     """Tries the bugs as must-fail edits, each by itself."""
     folder = room / "crates" / crate / "must-fail"
     folder.mkdir()
     for number, plant in enumerate(plants, 1):
         (folder / f"plant_{number:02}.edit").write_text("\n".join(plant.lines) + "\n", encoding="utf-8")
     said, _ = rt(room, ["must-fail", crate], jobs)
+    keep(said)
     for number, plant in enumerate(plants, 1):
         found = re.search(rf"must-fail {crate}/plant_{number:02}\.edit: (.*(?:\n(?!rt: ).*)*)", said)
         plant.kind, plant.said = judged_alone(found[1] if found else said)
     shutil.rmtree(folder)
-    return said
 
 
 def judged_alone(said):
@@ -221,7 +221,7 @@ def tell(crate, plants):
 
 
 def main(words):
-    jobs, log, alone = 2, None, False
+    jobs, log, alone, only = 2, None, False, ""
     while words and words[0].startswith("--"):
         flag = words.pop(0)
         if flag == "--alone":
@@ -230,18 +230,18 @@ def main(words):
             jobs = int(words.pop(0))
         elif flag == "--log":
             log = Path(words.pop(0))
+        elif flag == "--only":
+            only = words.pop(0)
         else:
             sys.exit(__doc__)
+    keep = lambda said: log and log.open("a", encoding="utf-8").write(said + "\n")
     crates = words or sorted(path.stem for path in PLANTS.glob("*.txt"))
-    planted = {crate: plants_of(crate) for crate in crates}
+    planted = {crate: [plant for plant in plants_of(crate) if re.search(only, plant.title)] for crate in crates}
     with tempfile.TemporaryDirectory(prefix="connect-plants-") as made:
         room = Path(made)
         copy_repository(room)
         for crate, plants in planted.items():
-            said = (try_alone if alone else try_proofs)(room, crate, plants, jobs)
-            if log:
-                with log.open("a", encoding="utf-8") as it:
-                    it.write(said)
+            (try_alone if alone else try_proofs)(room, crate, plants, jobs, keep)
             for plant in plants:
                 if plant.kind in ("proved", "script"):
                     plant.caught = try_tests(room, plant)
