@@ -1,8 +1,7 @@
 -- Where each node but the root is the head of one arc, each side without the root is entered exactly where the arcs are a forest.
-use Rattle.std.specs.Prelude.{ℕ, zero, suc, ◌≡◌, ◌+◌, ◌<◌, ◌≤◌, ◌==◌, ◌↔◌, Bool, true, false, not, ◌&&◌, cond, List, [], ◌∷◌, length, count_by, refl}
+use Rattle.std.specs.Prelude.{ℕ, zero, suc, ◌≡◌, ◌≢◌, ◌+◌, ◌<◌, ◌≤◌, ◌==◌, ◌↔◌, Bool, true, false, not, ◌&&◌, cond, List, [], ◌∷◌, length, count_by, refl}
 use Rattle.std.proofs.Common.{sym, ap, ◌∙◌, arith, inl, inr, eq-eqb}
 use Rattle.std.proofs.lemmas.Bool.{cases_Bool, cases_eq, ne_eqb}
-use Rattle.std.proofs.lemmas.Bool.Decides.{nat_tests}
 use Rattle.std.proofs.lemmas.List.Sums.{sum_by-cons}
 use Rattle.graph_core.specs.Side.{has, size, sum_over, IsNonempty}
 use Rattle.graph_core.specs.Lines.{within, enters, induced, entering}
@@ -22,22 +21,19 @@ sum_over-ones [] f h = refl
 sum_over-ones (true ∷ X) f h = omega (arith, h 0 (omega arith), sum_over-ones X (λ v. f (suc v)) (λ v l. h (suc v) (omega arith)), sum_by-cons weight true X)
 sum_over-ones (false ∷ X) f h = omega (arith, sum_over-ones X (λ v. f (suc v)) (λ v l. h (suc v) (omega arith)), sum_by-cons weight false X)
 
-eqb-zero-suc : (v : ℕ) → (0 == suc v) ≡ false
-eqb-zero-suc v = ne_eqb 0 (suc v) (λ e. absurd (omega arith))
+-- what is 1 at one node and 0 elsewhere counts once in a side that has it
+sum_over-at : (X : List Bool) (u : ℕ) (f : ℕ → ℕ) → f u ≡ 1 → ((v : ℕ) → v ≢ u → f v ≡ 0) → sum_over X f ≡ weight (has X u)
+sum_over-at [] u f one none = refl
+sum_over-at (x ∷ X) zero f one none =
+    let rest : sum_over X (λ v. f (suc v)) ≡ 0 = (λ t. sum_over X (λ v. none (suc v) (λ e. absurd (omega arith)) t)) ∙ nodes_none X in
+    elim x as (λ b. cond b (f 0) 0 + sum_over X (λ v. f (suc v)) ≡ weight b) [ true ↦ omega arith | false ↦ omega arith ]
+sum_over-at (x ∷ X) (suc u) f one none =
+    let rest = sum_over-at X u (λ v. f (suc v)) one (λ v other. none (suc v) (λ e. other (omega arith))) in
+    let first : f 0 ≡ 0 = none 0 (λ e. absurd (omega arith)) in
+    elim x as (λ b. cond b (f 0) 0 + sum_over X (λ v. f (suc v)) ≡ weight (has X u)) [ true ↦ omega arith | false ↦ omega arith ]
 
-eqb-suc-zero : (u : ℕ) → (suc u == 0) ≡ false
-eqb-suc-zero u = ne_eqb (suc u) 0 (λ e. absurd (omega arith))
-
-eqb-suc : (u v : ℕ) → (suc u == suc v) ≡ (u == v)
-eqb-suc u v = grind (arith, nat_tests)
-
--- a node counts once in a side that has it
 sum_over-one : (X : List Bool) (u : ℕ) → sum_over X (λ v. weight (u == v)) ≡ weight (has X u)
-sum_over-one [] u = refl
-sum_over-one (x ∷ X) zero = (λ t. cond x 1 0 + sum_over X (λ v. weight (eqb-zero-suc v t))) ∙ ap (λ k. cond x 1 0 + k) (nodes_none X) ∙ omega arith
-sum_over-one (x ∷ X) (suc u) =
-    (λ t. cond x (weight (eqb-suc-zero u t)) 0 + sum_over X (λ v. weight (eqb-suc u v t)))
-    ∙ (let rest = sum_over-one X u in elim x as (λ b. cond b 0 0 + sum_over X (λ v. weight (u == v)) ≡ weight (has X u)) [ true ↦ omega arith | false ↦ omega arith ])
+sum_over-one X u = sum_over-at X u (λ v. weight (u == v)) (ap weight (eq-eqb u u refl)) (λ v other. ap weight (ne_eqb u v (λ e. other (sym e))))
 
 -- the arcs with their heads in a side, by its nodes
 heads-in : (X : List Bool) (ls : List Line) → sum_over X (λ v. in_degree v ls) ≡ count_by (λ l. has X l.head) ls
