@@ -214,6 +214,55 @@ def is_forest(n, pairs):
     return True
 
 
+def is_arborescence(n, arcs, root):
+    """Whether the arcs are a spanning arborescence of the root: each other node is one's head, and is reached."""
+    heads = sorted(h for _, h, *_ in arcs)
+    if heads != [v for v in range(n) if v != root]:
+        return False
+    came = {h: t for t, h, *_ in arcs}
+    for v in range(n):
+        steps = 0
+        while v != root and steps < n:
+            v, steps = came[v], steps + 1
+        if v != root:
+            return False
+    return True
+
+
+def sides(nodes):
+    """Each nonempty set of the nodes."""
+    for chosen in range(1, 2 ** len(nodes)):
+        yield {v for place, v in enumerate(nodes) if chosen >> place & 1}
+
+
+def partitions(nodes):
+    """Each partition of the nodes, as a list of sets."""
+    if not nodes:
+        yield []
+        return
+    for rest in partitions(nodes[1:]):
+        yield [{nodes[0]}, *rest]
+        for place, part in enumerate(rest):
+            yield [*rest[:place], {nodes[0], *part}, *rest[place + 1:]]
+
+
+def between(lines, classes):
+    """How many lines have their ends in two classes."""
+    return len(lines) - sum(induced(lines, c) for c in classes)
+
+
+def most_arborescences(n, lines, root):
+    return min(entering(lines, X) for X in sides([v for v in range(n) if v != root]))
+
+
+def most_trees(n, lines):
+    return min(between(lines, P) // (len(P) - 1) for P in partitions(list(range(n))) if len(P) > 1)
+
+
+def fewest_forests(n, lines):
+    return max((-(-induced(lines, X) // (len(X) - 1)) for X in sides(list(range(n))) if len(X) > 1), default=0)
+
+
 # ---- certificates
 
 class Bad(Exception):
@@ -339,7 +388,28 @@ def judge(graph, words, seen):
             if degree(graph.lines, side) != w or most_walks(n, graph.lines, False, u, v) < w:
                 return "dual"
         return None
+    if command in ("arborescences", "trees", "forests"):
+        return judge_parts(graph, words, of("part"), sets, value)
     raise NotImplementedError(command)
+
+
+def judge_parts(graph, words, parts, sets, value):
+    n, lines = len(graph.names), graph.lines
+    used = [j for part in parts for j in part]
+    feasible = len(set(used)) == len(used)
+    if words[0] == "arborescences":
+        root = graph.number(words[1].encode())
+        feasible = feasible and all(is_arborescence(n, [lines[j] for j in part], root) for part in parts)
+        right, bound = sets[0] and root not in sets[0], entering(lines, sets[0])
+    elif words[0] == "trees":
+        feasible = feasible and all(len(part) == n - 1 and is_forest(n, [lines[j][:2] for j in part]) for part in parts)
+        right = len(sets) > 1 and all(sets) and sorted(v for s in sets for v in s) == list(range(n))
+        bound = between(lines, sets) // (len(sets) - 1) if right else 0
+    else:
+        feasible = sorted(used) == list(range(len(lines))) and all(is_forest(n, [lines[j][:2] for j in part]) for part in parts)
+        right = not sets or len(sets[0]) > 1
+        bound = -(-induced(lines, sets[0]) // (len(sets[0]) - 1)) if sets and right else 0
+    return "infeasible" if not feasible else "dual" if not right else None if value == len(parts) == bound else "gap"
 
 
 def reached(start, pairs):

@@ -11,8 +11,8 @@ from pathlib import Path
 
 import graphs as plain
 
-SOLVED = ["flow", "cuttree"]
-CHECKED = ["flow", "cuttree"]
+SOLVED = ["flow", "cuttree", "arborescences", "trees", "forests"]
+CHECKED = SOLVED
 HERE = Path(__file__).resolve().parent
 EXIT = {"rejected": 2, "words": 3, "graph": 4, "large": 5, "unsuited": 6}
 
@@ -66,6 +66,12 @@ def best_value(graph, words):
     if words[0] == "flow":
         s, t = (graph.number(w.encode()) for w in words[1:])
         return plain.most_walks(len(graph.names), graph.lines, graph.directed, s, t)
+    if words[0] == "arborescences":
+        return plain.most_arborescences(len(graph.names), graph.lines, graph.number(words[1].encode()))
+    if words[0] == "trees":
+        return plain.most_trees(len(graph.names), graph.lines)
+    if words[0] == "forests":
+        return plain.fewest_forests(len(graph.names), graph.lines)
     return None
 
 
@@ -103,7 +109,7 @@ def expect(words, data, got, wanted):
 
 # ---- random texts
 
-def random_graph(directed, most_nodes=9, most_lines=24):
+def random_graph(directed, most_nodes=7, most_lines=24):
     n = random.randint(1, most_nodes)
     names = random.sample(["a", "b", "c", "node", "end", "fixed", "x.1", "Y_2", "-", "edge", "q" * 32], n)
     lines = [b"graph directed" if directed else b"graph undirected"]
@@ -161,13 +167,14 @@ def mutated(data):
     return data
 
 
-def random_words(names):
+def random_words(names, directed):
     if random.random() < 0.1:
         pool = list(plain.COMMANDS) + plain.KINDS + names + ["0", "1", "02", "32", "33", "+1", "4294967296", "", "a b"]
         return [random.choice(pool) for _ in range(random.randint(0, 4))]
-    command = random.choice(SOLVED)
+    suited = ["flow", "arborescences"] if directed else ["flow", "cuttree", "trees", "forests"]
+    command = random.choice(suited if random.random() < 0.9 else SOLVED)
     pick = lambda: random.choice(names) if random.random() < 0.97 else "nobody"
-    return [command] + {"flow": [pick(), pick()]}.get(command, [])
+    return [command] + {"flow": [pick(), pick()], "arborescences": [pick()]}.get(command, [])
 
 
 def main():
@@ -176,9 +183,10 @@ def main():
     seed = int(sys.argv[3]) if len(sys.argv) > 3 else 1
     random.seed(seed)
     for _ in range(rounds):
-        names, lines = random_graph(random.random() < 0.4)
+        directed = random.random() < 0.4
+        names, lines = random_graph(directed)
         data = spelled(lines)
-        words = random_words(names)
+        words = random_words(names, directed)
         compare(program, words, data)
         compare(program, words, mutated(data))
     print(f"{rounds} rounds from seed {seed}: as wanted")

@@ -4,13 +4,12 @@ use Rattle.std.proofs.Common.{sym, ap, ◌∙◌, arith, inl, inr, eq-eqb}
 use Rattle.std.proofs.lemmas.Bool.{cases_eq, false≢true, ne_eqb}
 use Rattle.std.proofs.lemmas.List.{length-map}
 use Rattle.graph_core.specs.Graph.{GraphValue, Fits}
-use Rattle.graph_core.specs.Side.{has, complement}
+use Rattle.graph_core.specs.Side.{has, complement, IsOnly}
 use Rattle.graph_core.specs.Lines.{differ, degree}
 use Rattle.graph_core.proofs.SideLaws.{has-complement}
 use Rattle.graph_core.proofs.CutLaws.{degree-complement}
 use Rattle.graph_core.specs.declared.graph.Kind.TheVariants.{Undirected}
 use Rattle.flow_cuts.specs.Cuts.{IsLeastCapacity}
-use Rattle.flow_cuts.specs.Flow.{IsOnly}
 use Rattle.flow_cuts.specs.Network.{Separates}
 use Rattle.flow_cuts.specs.GraphArcs.{arcs_of}
 use Rattle.flow_cuts.proofs.ArcLaws.{capacity-arcs_of}

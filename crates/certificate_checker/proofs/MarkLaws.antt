@@ -1,9 +1,11 @@
 -- Marks count how often numbers stand in rows.
 use Rattle.std.proofs.Common.{◌≡◌, ℕ, zero, suc, ◌+◌, ◌<◌, ◌≤◌, ◌==◌, Bool, true, false, cond, List, length, take, get_or, refl, sym, ap, ◌∙◌, eq-eqb, replicate, IsTrue, ◌↔◌, lit≤, arith}
+use Rattle.std.specs.Prelude.{All}
 use Rattle.std.specs.Bool.{OnTrue, OnFalse}
 use Rattle.std.proofs.lemmas.Bool.{false≢true}
 use Rattle.graph_core.specs.Walks.{AreDisjoint}
 use Rattle.std.specs.List.{concat, sum_by}
+use Rattle.std.proofs.lemmas.List.Elements.{All-from_get_or}
 use Rattle.std.proofs.lemmas.List.Sums.{sum_by_more, sum_by_more_le}
 use Rattle.graph_core.specs.Picked.{occurrences}
 use Rattle.graph_core.specs.Side.{has}
@@ -39,20 +41,39 @@ row-more-le x i rows d within =
 pub unmarked : (n j : ℕ) → mark (replicate n false) j ≡ 0
 unmarked n j = ap (λ b. cond {A = ℕ} b 1 0) (all-false n j)
 
-mark-le : (X : List Bool) (j : ℕ) → mark X j ≤ 1
+pub mark-le : (X : List Bool) (j : ℕ) → mark X j ≤ 1
 mark-le X j = elim (has X j) as (λ b. cond {A = ℕ} b 1 0 ≤ 1) [ true ↦ lit≤ tt | false ↦ lit≤ tt ]
 
 -- no number stands twice, where each got a mark that it hadn't before
 pub marked-apart : (n : ℕ) (old new : List Bool) (rows : List (List ℕ)) (all : Bool) → old ≡ replicate n false
-    → OnTrue all ((j : ℕ) → mark new j ≡ mark old j + occurrences j (concat rows)) → OnFalse all ((j : ℕ) × (2 ≤ mark old j + occurrences j (concat rows))) → IsTrue all ↔ AreDisjoint rows
+    → OnTrue all ((j : ℕ) → mark new j ≡ mark old j + occurrences j (concat rows)) → OnFalse all ((j : ℕ) × (j < n) × (2 ≤ mark old j + occurrences j (concat rows))) → IsTrue all ↔ AreDisjoint rows
 marked-apart n old new rows true start once twice = (
   λ _ j. let known : mark new j ≡ mark old j + occurrences j (concat rows) = once j in let one = mark-le new j in omega arith,
   λ _. refl,
 )
-marked-apart n old new rows false start once (x, two) = (
+marked-apart n old new rows false start once (x, below, two) = (
   λ never. absurd (false≢true never),
   λ disjoint.
       let none : mark old x ≡ 0 = ap (λ X. mark X x) start ∙ unmarked n x in
       let once : occurrences x (concat rows) ≤ 1 = disjoint x in
       absurd (omega arith),
 )
+
+is-marked : (b : Bool) → cond {A = ℕ} b 1 0 ≡ 1 → b ≡ true
+is-marked true h = refl
+is-marked false h = absurd (omega arith)
+
+-- each number stands once, where each got a mark that it hadn't before, and all have one
+pub marked-once : (n : ℕ) (old new : List Bool) (rows : List (List ℕ)) (all : Bool) → old ≡ replicate n false → length new ≡ n → ((j : ℕ) → mark new j ≡ mark old j + occurrences j (concat rows))
+    → (IsTrue all ↔ All (λ b. b ≡ true) new) → IsTrue all ↔ ((j : ℕ) → j < n → occurrences j (concat rows) ≡ 1)
+marked-once n old new rows all start long once told =
+    let each : (j : ℕ) → mark new j ≡ occurrences j (concat rows) = λ j. let is = once j in let none : mark old j ≡ 0 = ap (λ X. mark X j) start ∙ unmarked n j in omega arith in (
+      λ is j l. sym (each j) ∙ ap (λ b. cond {A = ℕ} b 1 0) (told.0 is j false (rw long l)),
+      λ every. told.1 (All-from_get_or (λ b. b ≡ true) new false (λ j l. is-marked (has new j) (each j ∙ every j (rw (← long) l)))),
+    )
+
+pub twice-not_once : (n x : ℕ) (old : List Bool) (rows : List (List ℕ)) → old ≡ replicate n false → x < n → 2 ≤ mark old x + occurrences x (concat rows) → ¬ ((j : ℕ) → j < n → occurrences j (concat rows) ≡ 1)
+twice-not_once n x old rows start below twice every =
+    let none : mark old x ≡ 0 = ap (λ X. mark X x) start ∙ unmarked n x in
+    let once = every x below in
+    omega arith

@@ -4,8 +4,9 @@ use Rattle.std.specs.Prelude.{slice_set, ◌||◌, remove}
 use Rattle.std.specs.Bool.{OnTrue, OnFalse}
 use Rattle.std.proofs.lemmas.List.Sums.{sum_by-cons, sum_by-append}
 use Rattle.std.proofs.lemmas.List.Elements.{All-more, All-append}
-use Rattle.std.proofs.lemmas.List.{length-replicate}
-use Rattle.graph_core.specs.Side.{has, size}
+use Rattle.std.proofs.lemmas.Bool.{false_from_ne_true}
+use Rattle.graph_core.specs.Side.{has, size, IsOnly}
+use Rattle.graphic_matroid.specs.Counts.{size-none}
 use Rattle.graph_core.proofs.Counting.{weight}
 use Rattle.graph_core.proofs.FamilyLaws.{count_by-le}
 use Rattle.certificate_checker.specs.TreeSides.{pair_at, inside, AreUncrossed, AddsOther, IsGrown, IsReach}
@@ -14,15 +15,6 @@ pub size-put : (X : List Bool) (v : ℕ) → v < length X → has X v ≡ false 
 size-put [] v l h = absurd (omega arith)
 size-put (x ∷ X) zero l h = omega (arith, sum_by-cons weight true X, sum_by-cons weight x X, ap weight h)
 size-put (x ∷ X) (suc v) l h = omega (arith, sum_by-cons weight x (slice_set X v true), sum_by-cons weight x X, size-put X v (omega arith) h)
-
-pub size-none : (n : ℕ) → size (replicate n false) ≡ 0
-size-none zero = refl
-size-none (suc n) = omega (arith, sum_by-cons weight false (replicate n false), size-none n)
-
-pub has-none : (n v : ℕ) → has (replicate n false) v ≡ false
-has-none zero v = refl
-has-none (suc n) zero = refl
-has-none (suc n) (suc v) = has-none n v
 
 pub has-put : (X : List Bool) (v : ℕ) → v < length X → has (slice_set X v true) v ≡ true
 has-put [] v l = absurd (omega arith)
@@ -159,18 +151,18 @@ grow-done before behind X Y Z true second a b = tt
 grow-done before behind X Y Z false true a b = tt
 grow-done before behind X Y Z false false a b = All-append (λ p. has Z p.0 ≡ has Z p.1) before behind (subst (λ S. AreUncrossed S before) (sym b.0) a.1) b.1
 
-pub reach-made : (n : ℕ) (none X Z : List Bool) (pairs : List (ℕ × ℕ × ℕ)) (j : ℕ) → none ≡ replicate n false → (pair_at pairs j).0 < n → X ≡ slice_set none (pair_at pairs j).0 true
-    → IsGrown (remove pairs j) X Z → AreUncrossed Z (remove pairs j) → IsReach n pairs j Z
-reach-made n none X Z pairs j is l put grown uncrossed =
-    let u = (pair_at pairs j).0 in
-    let long : length none ≡ n = ap length is ∙ length-replicate n false in
-    let within : u < length none = omega arith in
-    let out : has none u ≡ false = ap (λ S. has S u) is ∙ has-none n u in
-    let one : size X ≡ size none + 1 = ap size put ∙ size-put none u within out in
-    let start : size none ≡ 0 = ap size is ∙ size-none n in
-    record {
-      long = grown.long ∙ ap length put ∙ length-set none u true ∙ long;
-      holds = grown.keeps u (ap (λ S. has S u) put ∙ has-put none u within);
-      uncrossed = uncrossed;
-      paid = let paid = grown.paid in omega arith;
-    }
+size-only : (X : List Bool) (v : ℕ) → IsOnly X v → size X ≡ 1
+size-only [] v one = let here = one.here in absurd cc
+size-only (x ∷ X) zero one =
+    omega (arith, sum_by-cons weight x X, ap weight one.here, size-none X (λ k. false_from_ne_true (has X k) (λ more. let e = one.only (suc k) more in absurd (omega arith))))
+size-only (x ∷ X) (suc v) one =
+    let off : x ≡ false = false_from_ne_true x (λ more. let e = one.only 0 more in absurd (omega arith)) in
+    omega (arith, sum_by-cons weight x X, ap weight off, size-only X v (record { here = one.here; only = λ u more. let e = one.only (suc u) more in omega arith }))
+
+pub reach-made : (n : ℕ) (X Z : List Bool) (pairs : List (ℕ × ℕ × ℕ)) (j : ℕ) → length X ≡ n → IsOnly X (pair_at pairs j).0 → IsGrown (remove pairs j) X Z → AreUncrossed Z (remove pairs j) → IsReach n pairs j Z
+reach-made n X Z pairs j long first grown uncrossed = record {
+  long = grown.long ∙ long;
+  holds = grown.keeps (pair_at pairs j).0 first.here;
+  uncrossed = uncrossed;
+  paid = let paid = grown.paid in omega (arith, size-only X (pair_at pairs j).0 first);
+}

@@ -6,69 +6,46 @@ use Rattle.std.proofs.lemmas.List.{length-map, ext_get_or}
 use Rattle.std.proofs.lemmas.List.Elements.{All-nil, All-cons, All-head, All-tail, All-map, All-from_get_or}
 use Rattle.std.proofs.lemmas.List.Sums.{sum_by-cons}
 use Rattle.std.proofs.lemmas.Simd.{length-zip2}
-use Rattle.graph_core.specs.Side.{has, size, meet, minus, complement}
+use Rattle.graph_core.specs.Side.{has, size, complement}
 use Rattle.graph_core.specs.Lines.{differ, crosses, within, degree, induced}
 use Rattle.graph_core.specs.Graph.{GraphValue, Fits, line_of}
-use Rattle.graph_core.proofs.SideLaws.{has-zip2, has-minus, has-complement}
+use Rattle.graph_core.proofs.SideLaws.{has-zip2, has-complement, contains-has}
+use Rattle.graph_core.proofs.SplitLaws as split
+use Rattle.graph_core.specs.declared.graph.Line.{Line}
 use Rattle.graph_core.proofs.Counting.{weight, sum_by-add, sum_by-agree, All-both}
 use Rattle.graph_core.proofs.FamilyLaws.{size-nonempty, count_by-map}
 use Rattle.problem_defs.specs.CutTree.{tree_lines, IsSpanningTree, IsLeastCut}
-use Rattle.certificate_checker.specs.TreeSides.{pair_at, inside, AreUncrossed, IsReach, IsSideOf, NoneIsLess}
+use Rattle.certificate_checker.specs.TreeSides.{pair_at, inside, AreUncrossed, IsReach, NoneIsLess}
 use lib.Lanes.{zip2}
 
-split_within : (a b c d : Bool) → c ≡ d → weight (a && b) ≡ weight ((a && c) && (b && d)) + weight ((a && not c) && (b && not d))
-split_within a b c d h = grind arith
+-- X is a side of pair j: it holds the first node and misses the second, and no other pair crosses it
+pub record IsSideOf (n : ℕ) (pairs : List (ℕ × ℕ × ℕ)) (j : ℕ) (X : List Bool) : Type 0 where
+  pub long : length X ≡ n
+  pub holds : has X (pair_at pairs j).0 ≡ true
+  pub misses : has X (pair_at pairs j).1 ≡ false
+  pub uncrossed : AreUncrossed X (remove pairs j)
 
-split_size : (x z : Bool) → weight x ≡ weight (x && z) + weight (x && not z)
-split_size x z = grind arith
+line-at : (pairs : List (ℕ × ℕ × ℕ)) (j : ℕ) (d : Line) → j < length pairs → slice_index_or (tree_lines pairs) j d ≡ line_of ((pair_at pairs j).0, (pair_at pairs j).1)
+line-at [] j d l = absurd (omega arith)
+line-at (p ∷ pairs) zero d l = refl
+line-at (p ∷ pairs) (suc j) d l = line-at pairs j d (omega arith)
 
-size-split : (X Z : List Bool) → length X ≡ length Z → size X ≡ size (meet X Z) + size (minus X Z)
-size-split [] [] e = refl
-size-split [] (z ∷ Z) e = absurd (omega arith)
-size-split (x ∷ X) [] e = absurd (omega arith)
-size-split (x ∷ X) (z ∷ Z) e =
-    omega (arith, size-split X Z (omega arith), split_size x z, sum_by-cons weight x X, sum_by-cons weight (x && z) (meet X Z), sum_by-cons weight (x && not z) (minus X Z))
+lines-remove : (pairs : List (ℕ × ℕ × ℕ)) (j : ℕ) → remove (tree_lines pairs) j ≡ tree_lines (remove pairs j)
+lines-remove [] zero = refl
+lines-remove [] (suc j) = refl
+lines-remove (p ∷ pairs) zero = refl
+lines-remove (p ∷ pairs) (suc j) = ap (λ ls. line_of (p.0, p.1) ∷ ls) (lines-remove pairs j)
 
--- pairs that don't cross Z lie within one of the two parts into which Z splits X, where they lie within X
-inside-split : (X Z : List Bool) → length X ≡ length Z → (pairs : List (ℕ × ℕ × ℕ)) → AreUncrossed Z pairs → inside X pairs ≡ inside (meet X Z) pairs + inside (minus X Z) pairs
-inside-split X Z e pairs h =
-    sum_by-agree (λ p. weight (has X p.0 && has X p.1)) (λ p. weight (has (meet X Z) p.0 && has (meet X Z) p.1) + weight (has (minus X Z) p.0 && has (minus X Z) p.1)) pairs
-    (λ j d k.
-    let p = slice_index_or pairs j d in
-    rw (has-zip2 ◌&&◌ refl X Z p.0 e, has-zip2 ◌&&◌ refl X Z p.1 e, has-minus X Z p.0 e, has-minus X Z p.1 e)
-    (split_within (has X p.0) (has X p.1) (has Z p.0) (has Z p.1) (h j d k)))
-    ∙ sum_by-add (λ (p : ℕ × ℕ × ℕ). weight (has (meet X Z) p.0 && has (meet X Z) p.1)) (λ p. weight (has (minus X Z) p.0 && has (minus X Z) p.1)) pairs
+length-lines : (pairs : List (ℕ × ℕ × ℕ)) → length (tree_lines pairs) ≡ length pairs
+length-lines pairs = length-map (map (λ p. (p.0, p.1)) pairs) line_of ∙ length-map pairs (λ p. (p.0, p.1))
 
-some_in : (X : List Bool) (v : ℕ) → has X v ≡ true → 1 ≤ size X
-some_in [] v h = absurd cc
-some_in (x ∷ X) zero h = omega (arith, sum_by-cons weight x X, ap weight h)
-some_in (x ∷ X) (suc v) h = omega (arith, sum_by-cons weight x X, some_in X v h)
-
-contains-has : (X : List Bool) (v : ℕ) → has X v ≡ true → Contains X true
-contains-has [] v h = absurd cc
-contains-has (x ∷ X) zero h = (0, omega arith, h)
-contains-has (x ∷ X) (suc v) h = let (k, l, e) = contains-has X v h in (suc k, omega arith, e)
-
--- Where each pair has a side, fewer pairs than nodes lie within X: the side of one that does splits X in two, and each of the others that do lies within a part.
-few_within : {n : ℕ} (pairs : List (ℕ × ℕ × ℕ)) → ((j : ℕ) → j < length pairs → (X : List Bool) × IsSideOf n pairs j X) → (X : List Bool) → length X ≡ n → 1 ≤ size X → inside X pairs < size X
-few_within [] sides X e some = omega arith
-few_within {n} (p ∷ pairs) sides X e some =
-    let rest : (j : ℕ) → j < length pairs → (Z : List Bool) × IsSideOf n pairs j Z = λ j l.
-    let (Z, s) = sides (suc j) (omega arith) in
-    (Z, record { long = s.long; holds = s.holds; misses = s.misses; uncrossed = All-tail (λ q. has Z q.0 ≡ has Z q.1) p (remove pairs j) s.uncrossed }) in
-    let total = sum_by-cons (λ (q : ℕ × ℕ × ℕ). weight (has X q.0 && has X q.1)) p pairs in
-    elim (cases_Bool (has X p.0 && has X p.1)) [
-      | inr out ↦ omega (arith, ap weight out, few_within pairs rest X e some)
-      | inl both ↦
-          let (Z, s) = sides 0 (omega arith) in
-          let same : length X ≡ length Z = e ∙ sym s.long in
-          let ends = and_parts (has X p.0) (has X p.1) both in
-          let first : has (meet X Z) p.0 ≡ true = has-zip2 ◌&&◌ refl X Z p.0 same ∙ (λ z. ends.0 z && s.holds z) in
-          let second : has (minus X Z) p.1 ≡ true = has-minus X Z p.1 same ∙ (λ z. ends.1 z && not (s.misses z)) in
-          let near = few_within pairs rest (meet X Z) (length-zip2 ◌&&◌ X Z same ∙ e) (some_in (meet X Z) p.0 first) in
-          let far = few_within pairs rest (minus X Z) (length-zip2 (λ x y. x && not y) X Z same ∙ e) (some_in (minus X Z) p.1 second) in
-          omega (arith, ap weight both, inside-split X Z same pairs s.uncrossed, size-split X Z same)
-    ]
+side-of_line : (n : ℕ) (pairs : List (ℕ × ℕ × ℕ)) (j : ℕ) (X : List Bool) → j < length pairs → IsSideOf n pairs j X → split.IsSideOf n (tree_lines pairs) j X
+side-of_line n pairs j X l s = record {
+  long = s.long;
+  holds = λ d. ap (λ (k : Line). has X k.tail) (line-at pairs j d l) ∙ s.holds;
+  misses = λ d. ap (λ (k : Line). has X k.head) (line-at pairs j d l) ∙ s.misses;
+  uncrossed = rw lines-remove (All-map (λ k. has X k.tail ≡ has X k.head) line_of (map (λ p. (p.0, p.1)) (remove pairs j)) (All-map (λ q. has X q.0 ≡ has X q.1) (λ p. (p.0, p.1)) (remove pairs j) s.uncrossed));
+}
 
 pub induced-tree : (X : List Bool) (pairs : List (ℕ × ℕ × ℕ)) → induced X (tree_lines pairs) ≡ inside X pairs
 induced-tree X pairs = count_by-map (within X) line_of (map (λ p. (p.0, p.1)) pairs) ∙ count_by-map (λ q. within X (line_of q)) (λ p. (p.0, p.1)) pairs
@@ -85,7 +62,11 @@ tree-made g pairs nodes sides many = record {
       let (X, s) = sides j l in
       let both = nodes j (0, 0, 0) l in
       record { tail = both.0; head = both.1; apart = λ e. let a = ap (has X) e in let h = s.holds in let m = s.misses in absurd cc })));
-  acyclic = λ X some. rw (induced-tree X pairs) (few_within pairs sides X some.long (size-nonempty X some.some_in));
+  acyclic = λ X some.
+      split.few_within (tree_lines pairs) (λ j l.
+      let within : j < length pairs = omega (arith, length-lines pairs) in
+      let (Z, s) = sides j within in
+      (Z, side-of_line (length g.names) pairs j Z within s)) X some.long (size-nonempty X some.some_in);
   many = many;
 }
 

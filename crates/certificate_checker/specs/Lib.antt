@@ -1,8 +1,10 @@
 pub mod Accepted
 pub mod Checked
 pub mod Flaws
+pub mod Heads
 pub mod Judged
 pub mod Malformed
 pub mod Marks
+pub mod MatroidOf
 pub mod Reason
 pub mod TreeSides

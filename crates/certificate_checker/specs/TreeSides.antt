@@ -37,13 +37,6 @@ pub record IsReach (n : ℕ) (pairs : List (ℕ × ℕ × ℕ)) (j : ℕ) (X : L
   pub uncrossed : AreUncrossed X (remove pairs j)
   pub paid : size X ≤ inside X (remove pairs j) + 1
 
--- X is a side of pair j: it holds the first node and misses the second, and no other pair crosses it
-pub record IsSideOf (n : ℕ) (pairs : List (ℕ × ℕ × ℕ)) (j : ℕ) (X : List Bool) : Type 0 where
-  pub long : length X ≡ n
-  pub holds : has X (pair_at pairs j).0 ≡ true
-  pub misses : has X (pair_at pairs j).1 ≡ false
-  pub uncrossed : AreUncrossed X (remove pairs j)
-
 -- no side between u and v is left by fewer than w edges
 abbrev pub NoneIsLess : GraphValue → ℕ → ℕ → ℕ → Type 0
 NoneIsLess g u v w = (Y : List Bool) → length Y ≡ length g.names → differ (has Y u) (has Y v) ≡ true → w ≤ degree Y g.lines

@@ -1,19 +1,24 @@
 ghost use Rattle.std.specs.Prelude.{◌≡◌, ◌≤◌, true, length, OnOk, IfErr};
 ghost use Rattle.graph_core.specs.Graph.{IsWithinSize};
 ghost use Rattle.problem_defs.specs.Meets.{HasObject, HasDual, HasValue};
-ghost use Rattle.problem_defs.specs.Shaped.{IsShaped};
+ghost use Rattle.problem_defs.specs.Ask.{misfit_of};
+ghost use Rattle.problem_defs.specs.Shaped.{IsShaped, Belongs, AreRows, DualIsInRange};
+ghost use Rattle.problem_defs.specs.declared.cert.Body.TheVariants.{Parts};
 ghost use Rattle.certificate_text.specs.BadLine.{whole_lines};
 ghost use Rattle.certificate_checker.specs.Accepted.{IsAccepted};
 ghost use Rattle.certificate_checker.specs.Checked.{is_checked};
 ghost use Rattle.certificate_checker.specs.Judged.{IsJudged};
 ghost use Rattle.certificate_checker.specs.Reason.{IsReason};
 
+use crate::arborescences::judge_arborescences;
 use crate::cut_tree::judge_cut_tree;
 use crate::flow::judge_flow;
+use crate::forests::{judge_forests, judge_no_forests};
 use crate::rejection::Rejection;
+use crate::trees::judge_trees;
 use certificate_text::{CertRefusal, read_cert};
-use graph_core::Graph;
-use problem_defs::{Ask, Body, Cert, FlowAsk};
+use graph_core::{Graph, NumberRows};
+use problem_defs::{ArborescencesAsk, Ask, Body, Cert, FlowAsk, PartsDual};
 use std::alloc::Global;
 
 /// Whether the checker knows what a certificate of the command has to show.
@@ -21,7 +26,8 @@ fn is_checked(ask: Ask) -> bool
     ensures { result ≡ is_checked ask }
 {
     match ask {
-        Ask::Flow { .. } | Ask::CutTree => true,
+        Ask::Flow { .. } | Ask::CutTree | Ask::Arborescences { .. } | Ask::Trees | Ask::Forests =>
+            true,
         _ => false,
     }
 }
@@ -32,6 +38,40 @@ fn line_count(bytes: &[u8]) -> usize
     ensures few { result ≤ length bytes.now }
 {
     bytes.iter().filter(|byte| **byte == b'\n').count()
+}
+
+/// Judges a packing or a cover.
+fn judge_parts(
+    alloc: Global,
+    graph: &Graph,
+    ask: Ask,
+    value: u64,
+    rows: &NumberRows,
+    dual: &PartsDual,
+) -> Result<(), Rejection>
+    requires suits { misfit_of graph.now ask ≡ None }
+    requires belongs { Belongs ask (Parts value rows.now dual.now) }
+    requires rows { AreRows (length graph.now.lines) rows.now }
+    requires dual { DualIsInRange (length graph.now.names) dual.now }
+    ensures { IsJudged (HasObject graph.now ask (Parts value rows.now dual.now)) (HasDual graph.now ask (Parts value rows.now dual.now)) (HasValue graph.now ask (Parts value rows.now dual.now)) result }
+{
+    graph.known();
+    match (ask, dual) {
+        (Ask::Arborescences { root }, PartsDual::Cut(side)) => judge_arborescences(
+            alloc,
+            graph,
+            ArborescencesAsk { root },
+            value,
+            rows,
+            side,
+        ),
+        (Ask::Trees, PartsDual::Partition(classes)) => judge_trees(
+            alloc, graph, value, rows, classes,
+        ),
+        (Ask::Forests, PartsDual::Induced(side)) => judge_forests(alloc, graph, value, rows, side),
+        (Ask::Forests, PartsDual::Nothing) => judge_no_forests(alloc, graph, value, rows),
+        _ => unreachable!("the dual belongs to the ask"),
+    }
 }
 
 /// Judges what a certificate says of the graph. Each command has a module that decides by its definitions.
@@ -50,6 +90,9 @@ fn judge(alloc: Global, graph: &Graph, cert: &Cert) -> Result<(), Rejection>
             cut,
         ),
         (Ask::CutTree, Body::Tree(pairs)) => judge_cut_tree(alloc, graph, pairs),
+        (ask, Body::Parts { value, rows, dual }) => judge_parts(
+            alloc, graph, ask, *value, rows, dual,
+        ),
         _ => unreachable!("the body belongs to the ask"),
     }
 }

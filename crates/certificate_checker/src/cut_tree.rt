@@ -1,7 +1,6 @@
-ghost use Rattle.std.specs.Prelude.{◌≡◌, ℕ, ◌+◌, ◌<◌, ◌≤◌, ◌↔◌, false, All, length, replicate, IsTrue, IfOk};
+ghost use Rattle.std.specs.Prelude.{◌≡◌, ℕ, ◌+◌, ◌<◌, ◌≤◌, ◌↔◌, All, length, IsTrue, IfOk};
 ghost use Rattle.graph_core.specs.declared.graph.Kind.TheVariants.{Undirected};
 ghost use Rattle.problem_defs.specs.CutTree.{IsSpanningTree, IsLeastCut, AreLeastCuts};
-ghost use Rattle.flow_cuts.specs.Flow.{IsOnly};
 ghost use Rattle.flow_cuts.specs.GraphArcs.{arcs_of};
 ghost use Rattle.certificate_checker.specs.Judged.{IsJudged};
 ghost use Rattle.certificate_checker.specs.TreeSides.{pair_at, NoneIsLess};
@@ -12,29 +11,16 @@ use flow_cuts::Flow;
 use graph_core::{Graph, NoMemory, Side, WeightedPairs};
 use std::alloc::Global;
 
-/// Makes the side hold the one node.
-fn hold_only(side: &mut Side, none: &Side, node: u32)
-    requires none { none.now ≡ replicate (length side.old) false }
-    requires node { node < length side.old }
-    ensures long { length side.new ≡ length side.old }
-    ensures only { IsOnly side.new node }
-{
-    side.set_to(none);
-    side.put(node, true);
-}
-
 /// The cuts of a graph, by one network that all flows go over.
 #[derive(Drop)]
 struct Cuts<'a> {
     graph: &'a Graph,
     flow: Flow,
-    none: Side,
     inside: Side,
     outside: Side,
     ghost kind: { graph.now.kind ≡ Undirected },
     ghost nodes: { flow.nodes ≡ length graph.now.names },
     ghost arcs: { flow.arcs ≡ arcs_of Undirected graph.now.lines },
-    ghost none_in: { none ≡ replicate (length graph.now.names) false },
     ghost inside_long: { length inside ≡ length graph.now.names },
     ghost outside_long: { length outside ≡ length graph.now.names },
 }
@@ -47,13 +33,11 @@ impl<'a> Cuts<'a> {
         graph.known();
         let n = graph.node_count();
         let flow = Flow::of_graph(alloc, graph)?;
-        let none = Side::empty(alloc, n)?;
         let inside = Side::empty(alloc, n)?;
         let outside = Side::empty(alloc, n)?;
         Ok(Cuts {
             graph,
             flow,
-            none,
             inside,
             outside,
         })
@@ -70,7 +54,7 @@ impl<'a> Cuts<'a> {
             return false;
         }
         for j in 0..pairs.len() {
-            reach(&mut self.inside, &self.none, pairs, j);
+            reach(&mut self.inside, pairs, j);
             if self.inside.has(pairs[j].1) {
                 return false;
             }
@@ -86,8 +70,8 @@ impl<'a> Cuts<'a> {
         ensures least { IsTrue result ↔ NoneIsLess self.old.graph.now u v weight }
     {
         self.graph.known();
-        hold_only(&mut self.inside, &self.none, u);
-        hold_only(&mut self.outside, &self.none, v);
+        self.inside.hold_only(u);
+        self.outside.hold_only(v);
         self.flow.run(&self.inside, &self.outside, weight) == weight
     }
 
@@ -100,7 +84,7 @@ impl<'a> Cuts<'a> {
         ensures least { IsTrue result ↔ IsLeastCut self.old.graph.now pairs.now (pair_at pairs.now j).0 (pair_at pairs.now j).1 (pair_at pairs.now j).2 }
     {
         let (u, v, weight) = pairs[j];
-        reach(&mut self.inside, &self.none, pairs, j);
+        reach(&mut self.inside, pairs, j);
         if self.graph.degree(&self.inside) != weight {
             return false;
         }

@@ -2,12 +2,16 @@
 #![tactic(auto)]
 
 mod answer;
+mod arborescences;
 mod cut_tree;
 mod flow;
+mod forests;
 mod law;
 mod marks;
+mod parts;
 mod reach;
 mod rejection;
+mod trees;
 
 pub use answer::check;
 pub use law::one_answer;

@@ -1,4 +1,4 @@
-ghost use Rattle.std.specs.Prelude.{◌≡◌, ℕ, ◌+◌, ◌<◌, ◌≤◌, ◌++◌, true, false, All, length, replicate};
+ghost use Rattle.std.specs.Prelude.{◌≡◌, ℕ, ◌+◌, ◌<◌, ◌≤◌, ◌++◌, true, false, All, length};
 ghost use Rattle.std.specs.Bool.{OnTrue, OnFalse};
 ghost use Rattle.graph_core.specs.Side.{has, size};
 ghost use Rattle.certificate_checker.specs.TreeSides.{AddsOther, AreUncrossed, IsGrown, IsReach};
@@ -57,14 +57,11 @@ fn grow(side: &mut Side, before: &[(u32, u32, u64)], behind: &[(u32, u32, u64)])
 }
 
 /// Makes the side what pair `j`'s first node reaches by the other pairs.
-pub fn reach(side: &mut Side, none: &Side, pairs: &[(u32, u32, u64)], j: usize)
+pub fn reach(side: &mut Side, pairs: &[(u32, u32, u64)], j: usize)
     requires nodes { All (λ p. (p.0 < length side.old) × (p.1 < length side.old)) pairs.now }
-    requires none { none.now ≡ replicate (length side.old) false }
     requires j { j < length pairs.now }
     ensures { IsReach (length side.old) pairs.now j side.new }
 {
-    let u = pairs[j].0;
-    side.set_to(none);
-    side.put(u, true);
+    side.hold_only(pairs[j].0);
     grow(side, &pairs[..j], &pairs[j + 1..]);
 }

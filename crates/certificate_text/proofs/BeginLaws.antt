@@ -1,5 +1,5 @@
 -- Lines are allowed just where they begin a certificate.
-use Rattle.std.proofs.Common.{◌≡◌, ℕ, zero, suc, ◌+◌, ◌<◌, ◌≤◌, ◌^◌, ◌==◌, ◌&&◌, ◌||◌, Bool, true, false, cond, List, [], ◌∷◌, ◌++◌, length, get_or, refl, sym, ap, subst, ◌∙◌, inl, inr, Option, None, Some, All, eq-eqb, arith}
+use Rattle.std.proofs.Common.{◌≡◌, ℕ, zero, suc, ◌+◌, ◌<◌, ◌≤◌, ◌^◌, ◌==◌, ◌&&◌, Bool, true, false, cond, List, [], ◌∷◌, ◌++◌, length, get_or, refl, sym, ap, subst, ◌∙◌, inl, inr, Option, None, Some, All, eq-eqb, arith}
 use Rattle.std.specs.Prelude.{replicate}
 use Rattle.std.specs.Option.{option_and_then}
 use Rattle.graph_core.specs.Graph.{GraphValue, IsGraph, Fits as LineFits}
@@ -27,6 +27,7 @@ use Rattle.certificate_text.specs.Allowed.{GoesOn, IsAllowed, BeginsLines}
 use Rattle.certificate_text.proofs.MachineLaws.{run-append, fill, CanFill, completed}
 use Rattle.certificate_text.proofs.FormLaws.{valid-join, kind-is}
 use Rattle.certificate_text.proofs.RowLaws.{has-body, accepted}
+use Rattle.certificate_text.proofs.TurnedLaws.{or-left}
 
 -- a line of the form
 abbrev sample : GraphValue → Form → ℕ → CertLine
@@ -105,9 +106,6 @@ empty_long (suc n) = ap suc (empty_long n)
 
 zero_fits : 0 < 2 ^ 64
 zero_fits = omega arith
-
-or-left : (a b : Bool) → a ≡ true → (a || b) ≡ true
-or-left a b e = λ i. e i || b
 
 turned_can : (g : GraphValue) (place more : ℕ) (left : List Slot) → CanFill (fits g) (sample g) left → CanFill (fits g) (sample g) (musts form.Turned place more ++ left)
 turned_can g place zero left can = can

@@ -20,7 +20,7 @@ use Rattle.certificate_text.specs.Keywords.{keyword_word, verb_word, NamesNodes}
 use Rattle.certificate_text.specs.Valid.{IsValid}
 use Rattle.certificate_text.specs.Words.{words, spelled, ask_words, name_of}
 use Rattle.certificate_text.specs.WordsLeft.{is_blank}
-use Rattle.certificate_text.proofs.SpellLaws.{head_word, clash, split-spelled, ask-same, names-nodes}
+use Rattle.certificate_text.proofs.SpellLaws.{behind, head_word, clash, split-spelled, ask-same, names-nodes}
 
 abbrev keyword_of_line : CertLine → Keyword
 keyword_of_line line.Title = key.Certificate
@@ -93,9 +93,6 @@ by-words g l (Ok None) is found = λ x valid same. found x valid (sym (split-spe
 by-words g l (Ok (Some x)) is found = (found.0, ap (join_with_byte 32) found.1 ∙ join_with_byte-slice_split 32 l)
 
 -- ---- lines and asks of two names
-
-behind : (a c : List ℕ) (more others : List (List ℕ)) → a ∷ more ≡ c ∷ others → more ≡ others
-behind a c more others e = cc
 
 pub no-edge : (g : GraphValue) (ws : List (List ℕ)) → ((p : ℕ × ℕ) → (p.0 < length g.names) × (p.1 < length g.names) → name_of g p.0 ∷ name_of g p.1 ∷ [] ≡ ws → ⊥) → (x : CertLine) → IsValid g x → words g x ≡ codes "edge" ∷ ws → ⊥
 no-edge g ws none (line.Edge u v) ok e = none (u, v) ok (behind _ _ _ _ e)

@@ -130,7 +130,7 @@ third a b c x y z more others e = cc
 fourth : (a b c d w x y z : List ℕ) → a ∷ b ∷ c ∷ d ∷ [] ≡ w ∷ x ∷ y ∷ z ∷ [] → d ≡ z
 fourth a b c d w x y z e = cc
 
-behind : (a c : List ℕ) (more others : List (List ℕ)) → a ∷ more ≡ c ∷ others → more ≡ others
+pub behind : (a c : List ℕ) (more others : List (List ℕ)) → a ∷ more ≡ c ∷ others → more ≡ others
 behind a c more others e = cc
 
 pub names-nodes : (g : GraphValue) (x : Ask) → misfit_of g x ≡ None → NamesNodes (length g.names) x

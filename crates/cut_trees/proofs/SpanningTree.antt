@@ -1,50 +1,22 @@
 -- A tree that has grown to all nodes is a cut tree.
-use Rattle.std.specs.Prelude.{ℕ, zero, suc, ◌≡◌, ◌≢◌, ◌+◌, ◌<◌, ◌≤◌, Bool, true, false, not, ◌&&◌, List, [], ◌∷◌, length, map, slice_index_or, sum_by, All, refl}
+use Rattle.std.specs.Prelude.{ℕ, zero, suc, ◌≡◌, ◌≢◌, ◌+◌, ◌<◌, ◌≤◌, Bool, true, false, List, [], ◌∷◌, length, map, remove, sum_by, All}
 use Rattle.std.proofs.Common.{sym, ap, ◌∙◌, arith, inl, inr}
-use Rattle.std.proofs.lemmas.Bool.{cases_Bool, cases_eq, cases_order, and_parts}
-use Rattle.std.proofs.lemmas.List.{length-map, ext_get_or}
+use Rattle.std.proofs.lemmas.Bool.{cases_eq, cases_order}
+use Rattle.std.proofs.lemmas.List.{length-map, ext_get_or, get_or-map}
 use Rattle.std.proofs.lemmas.List.Sums.{sum_by-cons, get_or-le-sum_by}
-use Rattle.std.proofs.lemmas.Simd.{length-zip2}
-use Rattle.graph_core.specs.Side.{has, size, meet, minus}
-use Rattle.graph_core.specs.Lines.{differ, crosses, within, degree, induced}
+use Rattle.graph_core.specs.Side.{has}
+use Rattle.graph_core.specs.Lines.{differ, crosses, degree}
 use Rattle.graph_core.specs.Graph.{GraphValue, Fits}
-use Rattle.graph_core.proofs.SideLaws.{has-zip2, has-minus}
-use Rattle.graph_core.proofs.Counting.{weight, sum_by-add, sum_by-agree}
+use Rattle.graph_core.proofs.Counting.{weight}
 use Rattle.graph_core.proofs.FamilyLaws.{size-nonempty, count_by-map}
+use Rattle.graph_core.proofs.SplitLaws.{AreUncrossed, IsSideOf, few_within}
+use Rattle.std.proofs.lemmas.List.Elements.{All-cons}
 use Rattle.graph_core.specs.declared.graph.Line.{Line}
 use Rattle.problem_defs.specs.CutTree.{IsLeastCut, IsCutTree}
 use Rattle.cut_trees.specs.declared.branch.Branch.{Branch}
 use Rattle.cut_trees.specs.Branch.{no_branch, at, pair_of}
 use Rattle.cut_trees.specs.Grown.{IsGrown}
 use Rattle.cut_trees.proofs.Branches.{line_at, tree_lines-branches, All-branches}
-
-split_within : (a b c d : Bool) → c ≡ d → weight (a && b) ≡ weight ((a && c) && (b && d)) + weight ((a && not c) && (b && not d))
-split_within a b c d h = grind arith
-
-split_size : (x z : Bool) → weight x ≡ weight (x && z) + weight (x && not z)
-split_size x z = grind arith
-
-size-split : (X Z : List Bool) → length X ≡ length Z → size X ≡ size (meet X Z) + size (minus X Z)
-size-split [] [] e = refl
-size-split [] (z ∷ Z) e = absurd (omega arith)
-size-split (x ∷ X) [] e = absurd (omega arith)
-size-split (x ∷ X) (z ∷ Z) e =
-    omega (arith, size-split X Z (omega arith), split_size x z, sum_by-cons weight x X, sum_by-cons weight (x && z) (meet X Z), sum_by-cons weight (x && not z) (minus X Z))
-
--- lines that don't cross Z lie within one of the two parts into which Z splits X, where they lie within X
-induced-split : (X Z : List Bool) → length X ≡ length Z → (ls : List Line) → All (λ l. has Z l.tail ≡ has Z l.head) ls → induced X ls ≡ induced (meet X Z) ls + induced (minus X Z) ls
-induced-split X Z e ls h =
-    sum_by-agree (λ l. weight (within X l)) (λ l. weight (within (meet X Z) l) + weight (within (minus X Z) l)) ls
-    (λ j d k.
-    let l = slice_index_or ls j d in
-    rw (has-zip2 ◌&&◌ refl X Z l.tail e, has-zip2 ◌&&◌ refl X Z l.head e, has-minus X Z l.tail e, has-minus X Z l.head e)
-    (split_within (has X l.tail) (has X l.head) (has Z l.tail) (has Z l.head) (h j d k)))
-    ∙ sum_by-add (λ l. weight (within (meet X Z) l)) (λ l. weight (within (minus X Z) l)) ls
-
-some_in : (X : List Bool) (v : ℕ) → has X v ≡ true → 1 ≤ size X
-some_in [] v h = absurd cc
-some_in (x ∷ X) zero h = omega (arith, sum_by-cons weight x X, ap weight h)
-some_in (x ∷ X) (suc v) h = omega (arith, sum_by-cons weight x X, some_in X v h)
 
 -- branches each of which has a side that it alone crosses
 record AreParted (n : ℕ) (bs : List Branch) : Type 0 where
@@ -53,31 +25,24 @@ record AreParted (n : ℕ) (bs : List Branch) : Type 0 where
   outside : (j : ℕ) → j < length bs → has (at bs j).side (at bs j).second ≡ false
   apart : (i j : ℕ) → i < length bs → j < length bs → i ≢ j → has (at bs j).side (at bs i).first ≡ has (at bs j).side (at bs i).second
 
--- fewer of them than nodes lie within X: the side of one that does splits X in two, and each of the others that do lies within a part
-few_within : {n : ℕ} (bs : List Branch) → AreParted n bs → (X : List Bool) → length X ≡ n → 1 ≤ size X → induced X (map line_at bs) < size X
-few_within [] p X e some = omega arith
-few_within {n} (b ∷ bs) p X e some =
-    let rest : AreParted n bs = record {
-      long = λ j l. p.long (suc j) (omega arith);
-      inside = λ j l. p.inside (suc j) (omega arith);
-      outside = λ j l. p.outside (suc j) (omega arith);
-      apart = λ i j li lj other. p.apart (suc i) (suc j) (omega arith) (omega arith) (λ same. other (omega arith));
-    } in
-    let total = sum_by-cons (λ l. weight (within X l)) (line_at b) (map line_at bs) in
-    elim (cases_Bool (within X (line_at b))) [
-      | inr out ↦ omega (arith, ap weight out, few_within bs rest X e some)
-      | inl both ↦
-          let Z = b.side in
-          let same : length X ≡ length b.side = e ∙ sym (p.long 0 (omega arith)) in
-          let ends = and_parts (has X b.first) (has X b.second) both in
-          let first : has (meet X b.side) b.first ≡ true = has-zip2 ◌&&◌ refl X b.side b.first same ∙ (λ z. ends.0 z && p.inside 0 (omega arith) z) in
-          let second : has (minus X b.side) b.second ≡ true = has-minus X b.side b.second same ∙ (λ z. ends.1 z && not (p.outside 0 (omega arith) z)) in
-          let near = few_within bs rest (meet X b.side) (length-zip2 ◌&&◌ X b.side same ∙ e) (some_in (meet X b.side) b.first first) in
-          let far = few_within bs rest (minus X b.side) (length-zip2 (λ x y. x && not y) X b.side same ∙ e) (some_in (minus X b.side) b.second second) in
-          let uncrossed : All (λ l. has b.side l.tail ≡ has b.side l.head) (map line_at bs) =
-          All-branches (λ l. has b.side l.tail ≡ has b.side l.head) line_at bs (λ j l. p.apart (suc j) 0 (omega arith) (omega arith) (λ h. absurd (omega arith))) in
-          omega (arith, ap weight both, induced-split X b.side same (map line_at bs) uncrossed, size-split X b.side same)
-    ]
+uncrossed_by_others : (Z : List Bool) (bs : List Branch) (j : ℕ) → j < length bs → ((i : ℕ) → i < length bs → i ≢ j → has Z (at bs i).first ≡ has Z (at bs i).second) → AreUncrossed Z (remove (map line_at bs) j)
+uncrossed_by_others Z [] j lt h = absurd (omega arith)
+uncrossed_by_others Z (b ∷ bs) zero lt h = All-branches (λ l. has Z l.tail ≡ has Z l.head) line_at bs (λ i l. h (suc i) (omega arith) (λ e. absurd (omega arith)))
+uncrossed_by_others Z (b ∷ bs) (suc j) lt h =
+    All-cons (λ l. has Z l.tail ≡ has Z l.head) (line_at b) (remove (map line_at bs) j) (h 0 (omega arith) (λ e. absurd (omega arith)))
+    (uncrossed_by_others Z bs j (omega arith) (λ i l other. h (suc i) (omega arith) (λ e. other (omega arith))))
+
+sides_of : {n : ℕ} (bs : List Branch) → AreParted n bs → (j : ℕ) → j < length (map line_at bs) → (Z : List Bool) × IsSideOf n (map line_at bs) j Z
+sides_of bs p j l =
+    let lt : j < length bs = omega (arith, length-map bs line_at) in (
+      (at bs j).side,
+      record {
+        long = p.long j lt;
+        holds = λ d. rw (get_or-map line_at bs j no_branch d lt) (p.inside j lt);
+        misses = λ d. rw (get_or-map line_at bs j no_branch d lt) (p.outside j lt);
+        uncrossed = uncrossed_by_others (at bs j).side bs j lt (λ i li other. p.apart i j li lt other);
+      },
+    )
 
 -- two items are no more than all
 two-le-sum_by : (g : Branch → ℕ) (bs : List Branch) (i j : ℕ) → i < j → j < length bs → g (at bs i) + g (at bs j) ≤ sum_by g bs
@@ -126,7 +91,7 @@ module _ {n : ℕ} {ls : List Line} (bs : List Branch) {rep : ℕ → ℕ} (st :
       record {
         tree = record {
           fit = rw (tree_lines-branches bs, names) fit;
-          acyclic = rw (tree_lines-branches bs, names) (λ X some. few_within bs parted X some.long (size-nonempty X some.some_in));
+          acyclic = rw (tree_lines-branches bs, names) (λ X some. few_within (map line_at bs) (sides_of bs parted) X some.long (size-nonempty X some.some_in));
           many = rw names (omega (arith, length-map bs pair_of, st.many));
         };
         cuts = All-branches (λ p. IsLeastCut g (map pair_of bs) p.0 p.1 p.2) pair_of bs (λ j l. record {

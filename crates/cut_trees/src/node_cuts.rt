@@ -1,6 +1,5 @@
 ghost use Rattle.std.specs.Prelude.{◌≡◌, ◌≢◌, ◌<◌, ◌≤◌, length, IfOk};
 ghost use Rattle.graph_core.specs.declared.graph.Kind.TheVariants.{Undirected};
-ghost use Rattle.flow_cuts.specs.Flow.{IsOnly};
 ghost use Rattle.flow_cuts.specs.GraphArcs.{arcs_of};
 ghost use Rattle.cut_trees.specs.Grown.{IsLeastSide};
 
@@ -19,18 +18,6 @@ pub struct NodeCuts<'a> {
     ghost arcs: { flow.arcs ≡ arcs_of Undirected graph.now.lines },
     ghost inside_long: { length inside ≡ length graph.now.names },
     ghost outside_long: { length outside ≡ length graph.now.names },
-}
-
-/// Makes the side hold the one node.
-fn hold_only(side: &mut Side, node: u32)
-    requires few { length side.old ≤ 8192 }
-    requires node { node < length side.old }
-    ensures long { length side.new ≡ length side.old }
-    ensures only { IsOnly side.new node }
-{
-    for v in 0..side.len() as u32 {
-        side.put(v, v == node);
-    }
 }
 
 impl<'a> NodeCuts<'a> {
@@ -61,8 +48,8 @@ impl<'a> NodeCuts<'a> {
         ensures cut { IsLeastSide (length self.old.graph.now.names) self.old.graph.now.lines s t result into.new }
     {
         self.graph.known();
-        hold_only(&mut self.inside, s);
-        hold_only(&mut self.outside, t);
+        self.inside.hold_only(s);
+        self.outside.hold_only(t);
         let stop = self.graph.line_count() as u64 + 1;
         let value = self.flow.run(&self.inside, &self.outside, stop);
         self.flow.side(into);

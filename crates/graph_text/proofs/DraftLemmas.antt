@@ -4,7 +4,7 @@ use Rattle.std.specs.Bool.{Decides}
 use Rattle.std.specs.declared.option.Option.{Option}
 use Rattle.std.specs.List.{list_any}
 use Rattle.std.specs.Str.{bytes_eq}
-use Rattle.std.proofs.lemmas.Bool.{leb-true, le-leb}
+use Rattle.std.proofs.lemmas.Bool.{and_parts, leb-true, le-leb}
 use Rattle.std.proofs.lemmas.List.Elements.{All-append, All-cons, All-nil}
 use Rattle.std.proofs.lemmas.List.Folds.{list_any_at}
 use Rattle.std.proofs.lemmas.List.Sums.{AllPass-from_list_all, list_all-from_AllPass}
@@ -19,22 +19,17 @@ use Rattle.graph_text.specs.Cause.{is_name}
 use Rattle.graph_text.specs.DraftView.{AreParts}
 use Rattle.graph_text.proofs.NamesLemmas.{name_at}
 
-pub and_left : (a b : Bool) → (a && b) ≡ true → a ≡ true
-and_left true b e = refl
-and_left false b e = e
-
-pub and_right : (a b : Bool) → (a && b) ≡ true → b ≡ true
-and_right true b e = e
-and_right false b e = absurd (true≢false (sym e))
-
 -- the test of a name
 pub is_name-Decides : (word : List ℕ) → Decides (is_name word) (IsName word)
 is_name-Decides word = (
-  λ e. record {
-    some = leb-true 1 (length word) (and_left (nat_le 1 (length word)) _ e);
-    short = leb-true (length word) 32 (and_left (nat_le (length word) 32) _ (and_right (nat_le 1 (length word)) _ e));
-    allowed = AllPass-from_list_all is_name_byte word (and_right (nat_le (length word) 32) _ (and_right (nat_le 1 (length word)) _ e));
-  },
+  λ e.
+      let (some, rest) = and_parts (nat_le 1 (length word)) _ e in
+      let (short, allowed) = and_parts (nat_le (length word) 32) _ rest in
+      record {
+        some = leb-true 1 (length word) some;
+        short = leb-true (length word) 32 short;
+        allowed = AllPass-from_list_all is_name_byte word allowed;
+      },
   λ name. λ i. le-leb 1 (length word) name.some i && (le-leb (length word) 32 name.short i && list_all-from_AllPass is_name_byte word name.allowed i),
 )
 

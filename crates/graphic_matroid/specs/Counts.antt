@@ -1,5 +1,5 @@
 -- Counts over lists, and sizes of sides.
-use Rattle.std.proofs.Common.{ℕ, zero, suc, ◌≡◌, ◌+◌, ◌<◌, ◌≤◌, Bool, true, false, cond, ◌⊎◌, inl, inr, List, [], ◌∷◌, length, count_by, refl, ap, ◌∙◌, arith, ⊎_elim}
+use Rattle.std.proofs.Common.{ℕ, zero, suc, ◌≡◌, ◌+◌, ◌<◌, ◌≤◌, Bool, true, false, cond, ◌⊎◌, inl, inr, List, [], ◌∷◌, length, count_by, replicate, refl, ap, ◌∙◌, arith, ⊎_elim}
 use Rattle.std.specs.List.{range_with_len, sum_by}
 use Rattle.std.proofs.lemmas.Bool.{cases_eq, cases_lt, both_ways}
 use Rattle.std.proofs.lemmas.List.{get_or_past, get_or_default}
@@ -82,6 +82,10 @@ size-ge_sum (x ∷ X) (y ∷ Y) (z ∷ Z) ey ez h =
 pub size-none : (X : List Bool) → ((k : ℕ) → has X k ≡ false) → size X ≡ 0
 size-none [] h = refl
 size-none (x ∷ X) h = omega (arith, count-cons (λ b. b) x X, weight_false x (h 0), size-none X (λ k. h (suc k)))
+
+pub size-all : (n : ℕ) → size (replicate n true) ≡ n
+size-all zero = refl
+size-all (suc n) = omega (arith, count-cons (λ b. b) true (replicate n true), size-all n)
 
 pub size-some : (X : List Bool) (v : ℕ) → v < length X → has X v ≡ true → 1 ≤ size X
 size-some X v l h = omega (arith, get_or-le-sum_by weight X v false l, weight_true (has X v) h)

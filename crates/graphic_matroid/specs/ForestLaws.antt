@@ -11,7 +11,7 @@ use Rattle.graph_core.specs.Trees.{IsAcyclic}
 use Rattle.graph_core.specs.declared.graph.Line.{Line}
 use Rattle.matroid_union.specs.Matroid.{IsMatroid, Takes}
 use Rattle.graphic_matroid.specs.Chosen.{chosen}
-use Rattle.graphic_matroid.specs.Labels.{class, splits, joined, unfit, Labels, Adds}
+use Rattle.graphic_matroid.specs.Labels.{class, splits, joined, unfit, Labels, Adds, Finest}
 use Rattle.graphic_matroid.specs.ChosenLaws.{chosen-le, chosen-all, chosen-none, chosen-set, chosen-some, chosen-find, chosen-size, chosen-take, chosen-take_le}
 use Rattle.graphic_matroid.specs.LabelLaws.{in_class, to_class, split_not, split_is, forest_more}
 use Rattle.graphic_matroid.specs.JoinLaws.{labels_more, joined_at, joined_off}
@@ -43,14 +43,10 @@ labels_none n = record {
       omega arith;
 }
 
--- any labels that no line splits are coarser
-pub record Finest (lab : ℕ → ℕ) (ls : List Line) : Type 0 where
-  pub coarser : (f : ℕ → ℕ) → count_by (splits f) ls ≡ 0 → (u v : ℕ) → lab u ≡ lab v → f u ≡ f v
-
-finest_none : Finest (λ v. v) []
+pub finest_none : Finest (λ v. v) []
 finest_none = record { coarser = λ f _ u v e. ap f e }
 
-finest_more : (lab : ℕ → ℕ) (ls : List Line) (l : Line) (more : List Line) → Finest lab ls → Adds ls l more → Finest (joined lab (lab l.tail) (lab l.head)) more
+pub finest_more : (lab : ℕ → ℕ) (ls : List Line) (l : Line) (more : List Line) → Finest lab ls → Adds ls l more → Finest (joined lab (lab l.tail) (lab l.head)) more
 finest_more lab ls l more w adds = record {
   coarser = λ f closed u v e.
       let counted = adds.counts (splits f) in

@@ -23,7 +23,7 @@ module _ (lab : ℕ → ℕ) (a b : ℕ) where
   joined_same u v e = ap (λ x. cond (eqb x a) b x) e
 
   -- where a and b are one label, nothing changes
-  joined_none : a ≡ b → joined lab a b ≡ lab
+  pub joined_none : a ≡ b → joined lab a b ≡ lab
   joined_none e = λ t v. at v t
     where
       at : (v : ℕ) → joined lab a b v ≡ lab v

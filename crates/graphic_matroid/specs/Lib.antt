@@ -1,6 +1,8 @@
 pub mod Chosen
 pub mod Labels
 pub mod Roots
+pub mod Components
+pub mod Forests
 pub mod Counts
 pub mod ChosenLaws
 pub mod LabelLaws

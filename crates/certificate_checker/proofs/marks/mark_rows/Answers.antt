@@ -15,9 +15,9 @@ loop-row-preserved c = λ k.
 
 pub returns-then-not-mark_row-clause-twice : goal.returns-then-not-mark_row-clause-twice
 returns-then-not-mark_row-clause-twice c =
-    let (x, twice) = c.if-not-mark_row.ensures.twice in
+    let (x, below, twice) = c.if-not-mark_row.ensures.twice in
     let two : 2 ≤ mark c.loop-row.marks x + occurrences x c.as_slice.result.now = twice in
     let known : mark c.loop-row.marks x ≡ mark c.args.marks.now x + occurrences x (concat (take c.loop-row.row-index c.args.rows.now)) = c.loop-row.invariant x in
     let more = row-more-le x c.loop-row.row-index c.args.rows.now c.row-item.result c.loop-row-test.true in
     let same : occurrences x c.as_slice.result.now ≡ occurrences x (get_or c.args.rows.now c.loop-row.row-index c.row-item.result) = ap (occurrences x) (c.as_slice.ensures ∙ c.row-item.is) in
-    (x, omega arith)
+    (x, omega arith, omega arith)

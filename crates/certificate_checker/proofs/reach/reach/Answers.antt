@@ -13,7 +13,6 @@ returns c =
     let next : j + 1 ≡ suc j = omega arith in
     let behind : take (length pairs - (j + 1)) (drop (j + 1) pairs) ≡ drop (suc j) pairs =
     take_all (length pairs - (j + 1)) (drop (j + 1) pairs) (omega (arith, length-drop (j + 1) pairs)) ∙ ap (λ k. drop k pairs) next in
-    reach-made (length c.args.side.now) c.args.none.now c.put.new.self c.grow.new.side pairs j c.requires.none ((c.requires.nodes j (0, 0, 0) c.requires.j).0)
-    (c.put.ensures ∙ ap (λ S. slice_set S (pair_at pairs j).0 true) c.set_to.ensures)
-    (subst (λ b. IsGrown (take j pairs ++ b) c.put.new.self c.grow.new.side) behind c.grow.ensures.grown)
+    reach-made (length c.args.side.now) c.hold_only.new.self c.grow.new.side pairs j c.hold_only.ensures.long c.hold_only.ensures.only
+    (subst (λ b. IsGrown (take j pairs ++ b) c.hold_only.new.self c.grow.new.side) behind c.grow.ensures.grown)
     (subst (λ b. AreUncrossed c.grow.new.side (take j pairs ++ b)) behind c.grow.ensures.done)

@@ -1,5 +1,5 @@
 use Rattle.std.proofs.Common.{◌≡◌, ◌<◌, ℕ, List, Bool, length}
-use Rattle.certificate_checker.specs.TreeSides.{IsSideOf}
+use Rattle.certificate_checker.proofs.TreeLaws.{IsSideOf}
 use Rattle.certificate_checker.proofs.cut_tree.Cuts.is_tree.Given as goal
 
 abbrev pub invariant-loop-j : goal.invariant-loop-j

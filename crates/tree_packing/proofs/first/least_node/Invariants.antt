@@ -1,0 +1,5 @@
+use Rattle.graph_core.specs.Side.{IsProper}
+use Rattle.tree_packing.proofs.first.least_node.Given as goal
+
+abbrev pub invariant-loop-v : goal.invariant-loop-v
+invariant-loop-v l = IsProper l.n l.least
