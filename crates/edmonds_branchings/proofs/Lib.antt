@@ -1,10 +1,12 @@
 pub mod Arborescence
 pub mod Begin
 pub mod Capacity
+pub mod Heads
 pub mod LeastSide
 pub mod Lovasz
 pub mod Made
 pub mod MayTake
+pub mod OneRoot
 pub mod Packed
 pub mod Refused
 pub mod Row
