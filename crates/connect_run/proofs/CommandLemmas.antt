@@ -9,7 +9,7 @@ use Rattle.problem_defs.specs.declared.ask.Misfit.{Misfit}
 use Rattle.connect_words.specs.Commands.{Solves}
 use Rattle.connect_words.specs.Asks.{asked, node_at, suited, unless}
 use Rattle.connect_words.specs.declared.command.Command.{Command}
-use Rattle.connect_words.specs.declared.command.Command.TheVariants.{Flow, CutTree, Check}
+use Rattle.connect_words.specs.declared.command.Command.TheVariants.{Flow, CutTree, Arborescences, Trees, Forests, Check}
 use Rattle.connect_words.proofs.MeaningLemmas.{one_command}
 use Rattle.connect_run.specs.Built.{AreCommand, is_built, is_solving, is_solved}
 use Rattle.connect_run.specs.WordsCase.{IsBadPlace}
@@ -23,6 +23,9 @@ built-solving command built other = built
 built-asks : (g : GraphValue) (words : List (List ℕ)) (command : Command) → is_solving command ≡ true → (ask : Ask) × (asked g words command ≡ Some ask) × (is_solved ask ≡ true) × KIsInRange ask
 built-asks g words Flow built = (ask.Flow (node_at g words 1) (node_at g words 2), refl, refl, tt)
 built-asks g words CutTree built = (ask.CutTree, refl, refl, tt)
+built-asks g words Arborescences built = (ask.Arborescences (node_at g words 1), refl, refl, tt)
+built-asks g words Trees built = (ask.Trees, refl, refl, tt)
+built-asks g words Forests built = (ask.Forests, refl, refl, tt)
 built-asks g words command built = absurd cc
 
 -- what a command's ask has to be for it to be solved
@@ -36,6 +39,9 @@ pub record CanBeAsked (g : GraphValue) (words : List (List ℕ)) (command : Comm
 pub built-solves : (command : Command) → is_solving command ≡ true → Solves command
 built-solves Flow built = ((λ same. cc), (λ kind nodes number same. cc))
 built-solves CutTree built = ((λ same. cc), (λ kind nodes number same. cc))
+built-solves Arborescences built = ((λ same. cc), (λ kind nodes number same. cc))
+built-solves Trees built = ((λ same. cc), (λ kind nodes number same. cc))
+built-solves Forests built = ((λ same. cc), (λ kind nodes number same. cc))
 built-solves command built = absurd cc
 
 -- what is said of the command's ask

@@ -5,10 +5,10 @@ use Rattle.graph_text.specs.declared.refusal.Why.{Why}
 use Rattle.graph_text.specs.declared.refusal.Why.TheVariants.{ManyNodes, ManyLines}
 use Rattle.problem_defs.specs.Meets.{HasObject}
 use Rattle.problem_defs.specs.declared.ask.Ask.{Ask}
-use Rattle.problem_defs.specs.declared.ask.Ask.TheVariants.{Flow, CutTree, Trees, Forests}
+use Rattle.problem_defs.specs.declared.ask.Ask.TheVariants.{Flow, CutTree, Arborescences, Trees, Forests}
 use Rattle.problem_defs.specs.declared.cert.Body.{Body}
 use Rattle.problem_defs.specs.declared.cert.Body.TheVariants.{Tree, Walks, Parts, Never}
-use Rattle.problem_defs.specs.declared.cert.PartsDual.TheVariants.{Partition, Induced, Nothing}
+use Rattle.problem_defs.specs.declared.cert.PartsDual.TheVariants.{Cut, Partition, Induced, Nothing}
 use Rattle.connect_run.specs.FaultCase.{fault_status}
 use Rattle.connect_run.specs.SolvedCase.{verdict}
 use Rattle.connect_words.specs.declared.command.Command.{Command}
@@ -39,6 +39,7 @@ verdict-told body = refl
 pub verdict-done : (g : GraphValue) (ask : Ask) (body : Body) → HasObject g ask body → verdict body ≡ Done
 verdict-done g (Flow s t) (Walks value rows cut) object = refl
 verdict-done g CutTree (Tree pairs) object = refl
+verdict-done g (Arborescences r) (Parts value rows (Cut side)) object = refl
 verdict-done g Trees (Parts value rows (Partition classes)) object = refl
 verdict-done g Forests (Parts value rows (Induced side)) object = refl
 verdict-done g Forests (Parts value rows Nothing) object = refl

@@ -10,11 +10,17 @@ use Rattle.problem_defs.specs.declared.ask.Ask.TheVariants as ask
 abbrev pub is_solving : Command → Bool
 is_solving command.Flow = true
 is_solving command.CutTree = true
+is_solving command.Arborescences = true
+is_solving command.Trees = true
+is_solving command.Forests = true
 is_solving other = false
 
 abbrev pub is_solved : Ask → Bool
 is_solved (ask.Flow s t) = true
 is_solved ask.CutTree = true
+is_solved (ask.Arborescences r) = true
+is_solved ask.Trees = true
+is_solved ask.Forests = true
 is_solved other = false
 
 abbrev pub is_built : Command → Bool

@@ -4,8 +4,11 @@ ghost use Rattle.problem_defs.specs.Ask.{misfit_of, KIsInRange};
 ghost use Rattle.problem_defs.specs.Meets.{Meets};
 ghost use Rattle.connect_run.specs.Built.{is_solved};
 
+mod arborescences;
 mod cut_tree;
 mod flow;
+mod forests;
+mod trees;
 
 use graph_core::{Graph, NoMemory};
 use problem_defs::{Ask, Cert};
@@ -23,6 +26,9 @@ pub fn solve(alloc: Global, graph: &Graph, ask: &Ask) -> Result<Cert, NoMemory>
     match *ask {
         Ask::Flow { from, to } => flow::solve_flow(alloc, graph, from, to),
         Ask::CutTree => cut_tree::solve_cut_tree(alloc, graph),
+        Ask::Arborescences { root } => arborescences::solve_arborescences(alloc, graph, root),
+        Ask::Trees => trees::solve_trees(alloc, graph),
+        Ask::Forests => forests::solve_forests(alloc, graph),
         _ => unreachable!("the ask is built"),
     }
 }

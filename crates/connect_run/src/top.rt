@@ -81,7 +81,15 @@ fn command_of(words: &[String]) -> Result<Command, usize>
 fn is_built(command: &Command) -> bool
     ensures { result ≡ is_built command.now }
 {
-    matches!(command, Command::Check | Command::Flow | Command::CutTree)
+    matches!(
+        command,
+        Command::Check
+            | Command::Flow
+            | Command::CutTree
+            | Command::Arborescences
+            | Command::Trees
+            | Command::Forests
+    )
 }
 
 fn serve_command<S: Source, K: Sink>(

@@ -9,7 +9,7 @@ pub const BACKBONE: &[u8] =
     b"# backbone, ring and four chords\r\ngraph undirected\r\n\r\nnode s1\r\nnode s2\r\nnode s3\r\nnode s4\r\nnode s5\r\nnode s6\r\nnode s7\r\nnode s8\r\nnode s9\r\nnode s10\r\nnode s11\r\nnode s12\r\n# ring\r\nedge\ts1\ts2\r\nedge\ts2\ts3\r\nedge\ts3\ts4\r\nedge\ts4\ts5\r\nedge\ts5\ts6\r\nedge\ts6\ts7\r\nedge\ts7\ts8\r\nedge\ts8\ts9\r\nedge\ts9\ts10\r\nedge\ts10\ts11\r\nedge\ts11\ts12\r\nedge\ts12\ts1\r\n# chords\r\nedge\ts1\ts7\r\nedge\ts2\ts8\r\nedge\ts3\ts9\r\nedge\ts4\ts10\r\nend\r\n";
 
 // Words, input, the whole text and the exit number.
-const WHOLE: [(&str, &[u8], &[u8], u8); 30] = [
+const WHOLE: [(&str, &[u8], &[u8], u8); 35] = [
     // No word goes on; the source isn't read.
     ("", b"", b"words 1\n", 3),
     ("flow a", b"", b"words 3\n", 3),
@@ -18,7 +18,7 @@ const WHOLE: [(&str, &[u8], &[u8], u8); 30] = [
     ("augment 02", b"", b"words 2\n", 3),
     ("trial flow 40 x", b"", b"words 4\n", 3),
     // Commands that aren't built.
-    ("trees", b"", b"words 1\n", 3),
+    ("augment 2", b"", b"words 1\n", 3),
     ("check x", b"", b"words 2\n", 3),
     (
         "check",
@@ -29,51 +29,51 @@ const WHOLE: [(&str, &[u8], &[u8], u8); 30] = [
     ("trial flow 40 7", b"", b"words 1\n", 3),
     // The first fault of the graph text.
     ("flow a b", b"", b"graph 1 header\n", 4),
-    ("flow a b", b"# nothing\n\n", b"graph 3 header\n", 4),
+    ("forests", b"# nothing\n\n", b"graph 3 header\n", 4),
     (
-        "flow a b",
+        "forests",
         b"graph undirected\nnode a\nedge a a\nend\n",
         b"graph 3 loop\n",
         4,
     ),
     (
-        "flow a b",
+        "forests",
         b"graph undirected\nnode a\nnode a\nend\n",
         b"graph 3 twice\n",
         4,
     ),
     (
-        "flow a b",
+        "forests",
         b"graph undirected\nnode a\n",
         b"graph 3 noend\n",
         4,
     ),
     (
-        "flow a b",
+        "forests",
         b"graph undirected\nnode a\narc a b\nend\n",
         b"graph 3 kind\n",
         4,
     ),
     (
-        "flow a b",
+        "forests",
         b"graph undirected\nnode a\nend\nnode b\n",
         b"graph 4 line\n",
         4,
     ),
     (
-        "flow a b",
+        "forests",
         b"graph undirected\nend\n",
         b"graph 2 nonode\n",
         4,
     ),
     (
-        "flow a b",
+        "forests",
         b"graph undirected\nnode a\nedge a b\nend\n",
         b"graph 3 unknown\n",
         4,
     ),
     (
-        "flow a b",
+        "forests",
         b"graph undirected\nnode a+\nend\n",
         b"graph 2 name\n",
         4,
@@ -88,7 +88,37 @@ const WHOLE: [(&str, &[u8], &[u8], u8); 30] = [
         b"unsuited kind\n",
         6,
     ),
-    // One node is a cut tree with no pair.
+    (
+        "trees",
+        b"graph undirected\nnode a\nend\n",
+        b"unsuited small\n",
+        6,
+    ),
+    (
+        "arborescences a",
+        b"graph directed\nnode a\nend\n",
+        b"unsuited small\n",
+        6,
+    ),
+    (
+        "arborescences q",
+        b"graph directed\nnode a\nnode b\nend\n",
+        b"unsuited node\n",
+        6,
+    ),
+    (
+        "arborescences a",
+        b"graph undirected\nnode a\nend\n",
+        b"unsuited kind\n",
+        6,
+    ),
+    // One node has no edge to cover, and is a cut tree with no pair.
+    (
+        "forests",
+        b"graph undirected\nnode a\nend\n",
+        b"certificate 1\ncommand forests\nvalue 0\ndual none\nend\n",
+        0,
+    ),
     (
         "cuttree",
         b"graph undirected\nnode a\nend\n",
@@ -198,10 +228,10 @@ fn the_limits_of_a_graph_text(rt: HostRuntime) -> Result<(), Fail> {
     let lines = answer(alloc, "flow n1 n2", &graph_text(alloc, 128, 2049)?)?;
     assert_eq!(rt; lines.0.as_slice(), b"large lines\n".as_slice());
     assert_eq!(rt; lines.1, 5);
-    let nodes = answer(alloc, "flow n1 n2", &graph_text(alloc, 129, 0)?)?;
+    let nodes = answer(alloc, "forests", &graph_text(alloc, 129, 0)?)?;
     assert_eq!(rt; nodes.0.as_slice(), b"large nodes\n".as_slice());
     assert_eq!(rt; nodes.1, 5);
-    let bytes = answer(alloc, "flow n1 n2", &vec![in alloc; b'#'; 1_048_577]?)?;
+    let bytes = answer(alloc, "forests", &vec![in alloc; b'#'; 1_048_577]?)?;
     assert_eq!(rt; bytes.0.as_slice(), b"large bytes\n".as_slice());
     assert_eq!(rt; bytes.1, 5);
     Ok(())

@@ -131,7 +131,7 @@ const SOLVED: [(&str, &[u8]); 8] = [
     ("flow a c", PATH),
 ];
 
-fn joined(alloc: Global, graph: &[u8], rest: &[u8]) -> Result<Vec<u8>, AllocError> {
+pub fn joined(alloc: Global, graph: &[u8], rest: &[u8]) -> Result<Vec<u8>, AllocError> {
     let mut input = Vec::from_slice(alloc, graph)?;
     input.extend_from_slice(rest)?;
     Ok(input)

@@ -6,7 +6,13 @@ mod answers;
 #[cfg(test)]
 mod best;
 #[cfg(test)]
+mod certificates;
+#[cfg(test)]
 mod checks;
+#[cfg(test)]
+mod flows;
+#[cfg(test)]
+mod packings;
 #[cfg(test)]
 mod streams;
 #[cfg(test)]

@@ -1,5 +1,6 @@
 pub mod ArcLaws
 pub mod ClosedSides
+pub mod CutLattice
 pub mod ExtremeSides
 pub mod GraphWalks
 pub mod LinkLaws

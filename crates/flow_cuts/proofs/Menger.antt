@@ -1,50 +1,22 @@
 -- Disjoint walks from one node to another, and a least cut between them that they meet.
-use Rattle.std.proofs.Common.{◌≡◌, ◌≢◌, ◌∙◌, ℕ, zero, suc, ◌+◌, ◌<◌, ◌≤◌, List, length, Bool, true, false, Some, None, refl, sym, ap, subst, arith, inl, inr}
-use Rattle.std.specs.Prelude.{slice_set, replicate}
-use Rattle.std.proofs.lemmas.Grind.{common_steps}
+use Rattle.std.proofs.Common.{◌≡◌, ◌≢◌, ◌∙◌, ℕ, ◌+◌, ◌≤◌, List, length, Bool, Some, None, refl, sym, ap, subst, arith}
+use Rattle.std.proofs.lemmas.Bool.{false_from_ne_true}
 use Rattle.std.proofs.lemmas.List.Sums.{count_by-le-length}
 use Rattle.graph_core.specs.Graph.{GraphValue}
-use Rattle.graph_core.specs.Side.{has}
+use Rattle.graph_core.specs.Side.{has, IsOnly}
 use Rattle.graph_core.specs.Lines.{cut_by}
 use Rattle.problem_defs.specs.Flow.{IsFeasible, IsDual, bound}
 use Rattle.flow_cuts.specs.Network.{capacity, Separates}
 use Rattle.flow_cuts.specs.Cuts.{IsLeastCapacity, IsLeastCut, IsSmallestCut}
-use Rattle.flow_cuts.specs.Flow.{Origin, Run, FlowValue, FellShort, IsOnly, RunsBetween, AreWalks}
+use Rattle.flow_cuts.specs.Flow.{Origin, Run, FlowValue, FellShort, RunsBetween, AreWalks}
 use Rattle.flow_cuts.specs.GraphArcs.{arcs_of}
 use Rattle.flow_cuts.proofs.ArcLaws.{capacity-arcs_of}
-use Rattle.flow_cuts.proofs.SearchTrees.{eq_or_not}
-
-none_of : (n v : ℕ) → has (replicate n false) v ≡ false
-none_of zero v = refl
-none_of (suc n) zero = refl
-none_of (suc n) (suc v) = none_of n v
-
-has_put : (X : List Bool) (s v : ℕ) → s < length X → v ≡ s → has (slice_set X s true) v ≡ true
-has_put X s v lt e = grind (arith, common_steps)
-
-has_off : (X : List Bool) (s v : ℕ) → s < length X → v ≢ s → has (slice_set X s true) v ≡ has X v
-has_off X s v lt e = grind (arith, common_steps)
-
-pub IsOnly-put : (n : ℕ) (X Y : List Bool) (s : ℕ) → X ≡ replicate n false → s < length X → Y ≡ slice_set X s true → IsOnly Y s
-IsOnly-put n X Y s none lt is =
-    let P : List Bool → Type 0 = λ y. IsOnly y s in
-    subst P (sym is) (record {
-      here = has_put X s s lt refl;
-      only = λ v h. elim (eq_or_not v s) [
-        | inl e ↦ e
-        | inr e ↦ let out = has_off X s v lt e in let no_more = ap (λ x. has x v) none ∙ none_of n v in absurd (cc (out, no_more, h))
-      ];
-    })
-
-not_here : (b : Bool) → (b ≡ true → ⊥) → b ≡ false
-not_here true h = absurd (h refl)
-not_here false h = refl
 
 Separates-only : (n : ℕ) (I O : List Bool) (s t : ℕ) → IsOnly I s → IsOnly O t → s ≢ t → length I ≡ n → Separates n I O I
 Separates-only n I O s t a b other len = record {
   long = len;
   holds = λ v h. h;
-  misses = λ v h. not_here (has I v) (λ e. other (sym (a.only v e) ∙ b.only v h));
+  misses = λ v h. false_from_ne_true (has I v) (λ e. other (sym (a.only v e) ∙ b.only v h));
 }
 
 -- at most all lines leave the one node, so a larger limit isn't met

@@ -11,11 +11,10 @@ use Rattle.flow_cuts.specs.declared.network.Way.{Way}
 use Rattle.flow_cuts.specs.declared.network.Way.TheVariants.{Forth, Back}
 use Rattle.flow_cuts.specs.declared.search.Mark.{Mark}
 use Rattle.flow_cuts.specs.Residual.{from_of, to_of, room_of, link_at, from_at, to_at, room_at, SameEnds, SameSums}
-use Rattle.graph_core.specs.Side.{has}
+use Rattle.graph_core.specs.Side.{has, IsOnly}
 use Rattle.flow_cuts.specs.Search.{mark_at, IsOpenWay}
 use Rattle.flow_cuts.specs.Streams.{taken, both_at, sent_of, IsSent, IsStream, IsLess}
 use Rattle.graph_core.specs.Picked.{occurrences}
-use Rattle.flow_cuts.specs.Flow.{IsOnly}
 use Rattle.flow_cuts.specs.LinkWalks.{Joins, IsLinkWalk, AreLinkWalks, AreUnits}
 use Rattle.flow_cuts.specs.Search.{IsSearched, IsMissed, is_seen}
 use Rattle.flow_cuts.proofs.ExtremeSides.{Separates-reached, IsClosedSide-reached, IsReachedSet-map}

@@ -1,6 +1,6 @@
 -- What a flow is seen as: its network and its last run.
-use Rattle.std.specs.Prelude.{◌≡◌, ◌≢◌, ℕ, ◌<◌, Bool, true, List, length, All, Option, Some}
-use Rattle.graph_core.specs.Side.{has}
+use Rattle.std.specs.Prelude.{◌≡◌, ◌≢◌, ℕ, ◌<◌, Bool, List, length, All, Option, Some}
+pub use Rattle.graph_core.specs.Side.{IsOnly}
 use Rattle.graph_core.specs.Walks.{IsWalk, AreDisjoint}
 use Rattle.graph_core.specs.declared.graph.Kind.{Kind}
 use Rattle.graph_core.specs.declared.graph.Line.{Line}
@@ -27,11 +27,6 @@ pub record FlowValue : Type 0 where
 -- the last run answered less than its limit
 abbrev pub FellShort : FlowValue → Type 0
 FellShort flow = (r : Run) × (flow.last ≡ Some r) × (r.answer < r.stop)
-
--- s is the one node of the side
-pub record IsOnly (side : List Bool) (s : ℕ) : Type 0 where
-  pub here : has side s ≡ true
-  pub only : (v : ℕ) → has side v ≡ true → v ≡ s
 
 -- the run went from the one node s to the one other node t
 pub record RunsBetween (r : Run) (s t : ℕ) : Type 0 where

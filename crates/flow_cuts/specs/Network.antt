@@ -20,3 +20,7 @@ pub record Separates (n : ℕ) (inside outside X : List Bool) : Type 0 where
   pub long : length X ≡ n
   pub holds : (v : ℕ) → has inside v ≡ true → has X v ≡ true
   pub misses : (v : ℕ) → has outside v ≡ true → has X v ≡ false
+
+-- f is the network's cut function: the capacity that leaves each side
+abbrev pub IsCutFunction : List Cap → (List Bool → ℕ) → Type 0
+IsCutFunction arcs f = (X : List Bool) → capacity X arcs ≡ f X

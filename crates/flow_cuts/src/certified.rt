@@ -1,5 +1,4 @@
-ghost use Rattle.std.specs.Prelude.{◌≡◌, ◌<◌, ◌≤◌, length, IfOk};
-ghost use Rattle.flow_cuts.specs.Flow.{IsOnly};
+ghost use Rattle.std.specs.Prelude.{◌≡◌, IfOk};
 ghost use Rattle.problem_defs.specs.Certified.{IsCertified};
 ghost use Rattle.problem_defs.specs.Flow.{Suits};
 
@@ -7,18 +6,6 @@ use crate::flow::Flow;
 use graph_core::{Graph, NoMemory, Side};
 use problem_defs::{Certified, FlowAsk, Problem};
 use std::alloc::Global;
-
-/// The side of one node.
-fn alone(alloc: Global, n: usize, v: u32) -> Result<Side, NoMemory>
-    requires fits { n ≤ 8192 }
-    requires node { v < n }
-    ensures len { IfOk result (λ side. length side ≡ n) }
-    ensures only { IfOk result (λ side. IsOnly side v) }
-{
-    let mut side = Side::empty(alloc, n)?;
-    side.put(v, true);
-    Ok(side)
-}
 
 /// The most disjoint walks from one node to another, and a cut that shows that there are no more (Menger's theorem, edge form).
 pub fn most_walks(
@@ -33,10 +20,12 @@ pub fn most_walks(
 {
     graph.known();
     let n = graph.node_count();
-    let inside = alone(alloc, n, from)?;
-    let outside = alone(alloc, n, to)?;
+    let mut inside = Side::empty(alloc, n)?;
+    let mut outside = Side::empty(alloc, n)?;
     let mut dual = Side::empty(alloc, n)?;
     let mut flow = Flow::of_graph(alloc, graph)?;
+    inside.hold_only(from);
+    outside.hold_only(to);
     flow.run(&inside, &outside, graph.line_count() as u64 + 1);
     flow.side(&mut dual);
     let object = flow.walks(alloc)?;

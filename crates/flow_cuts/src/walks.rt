@@ -2,9 +2,8 @@ ghost use Rattle.std.specs.Prelude.{◌≡◌, ℕ, ◌+◌, ◌<◌, ◌≤◌,
 ghost use Rattle.flow_cuts.specs.declared.network.Link.{Link as LinkOf};
 ghost use Rattle.flow_cuts.specs.declared.network.Step.{Step as StepOf};
 ghost use Rattle.flow_cuts.specs.Residual.{SameEnds, from_at};
-ghost use Rattle.graph_core.specs.Side.{has};
+ghost use Rattle.graph_core.specs.Side.{has, IsOnly};
 ghost use Rattle.graph_core.specs.Picked.{occurrences};
-ghost use Rattle.flow_cuts.specs.Flow.{IsOnly};
 ghost use Rattle.flow_cuts.specs.Search.{mark_at, IsOpenWay, IsAdjacency};
 ghost use Rattle.flow_cuts.specs.Streams.{IsStream, IsLess, IsSent, both_at};
 ghost use Rattle.flow_cuts.specs.LinkWalks.{IsLinkWalk, AreLinkWalks};

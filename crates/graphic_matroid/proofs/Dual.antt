@@ -1,35 +1,33 @@
 -- What the reached lines say of disjoint forests.
-use Rattle.std.proofs.Common.{ℕ, zero, suc, ◌≡◌, ◌+◌, ◌<◌, ◌≤◌, Bool, true, false, eqb, ◌&&◌, ◌⊎◌, inl, inr, List, length, get_or, set, count_by, sym, ap, ◌∙◌, arith, ⊎_elim, subst}
+use Rattle.std.proofs.Common.{ℕ, zero, suc, ◌≡◌, ◌+◌, ◌*◌, ◌<◌, ◌≤◌, Bool, true, false, eqb, not, ◌&&◌, ◌⊎◌, inl, inr, List, [], ◌∷◌, length, get_or, set, count_by, sym, refl, ap, ◌∙◌, arith, ⊎_elim, subst}
+use Rattle.std.specs.Prelude.{All}
 use Rattle.std.proofs.lemmas.Bool.{cases_eq, cases_Bool, both_ways, eqb-true, eq-eqb, ne_eqb, and_parts, and_from, false_from_ne_true, true_from_ne_false, or_cases}
-use Rattle.std.proofs.lemmas.List.{get_or-set_same, get_or-set_other}
+use Rattle.std.proofs.lemmas.List.{get_or-set_same, get_or-set_other, get_or_default}
+use Rattle.std.proofs.lemmas.List.FromFn.{fill_by_all}
+use Rattle.std.proofs.lemmas.List.Sums.{get_or-le-sum_by}
 use Rattle.graph_core.specs.Side.{has, size}
-use Rattle.graph_core.specs.Lines.{within}
+use Rattle.graph_core.specs.Lines.{within, crosses, differ, parted, degree}
+use Rattle.graph_core.specs.Families.{IsPartition}
 use Rattle.graph_core.specs.Trees.{IsAcyclic}
 use Rattle.graph_core.specs.declared.graph.Line.{Line}
+use Rattle.graph_core.proofs.Counting.{weight}
+use Rattle.graph_core.proofs.FamilyLaws.{parted-or-within}
 use Rattle.matroid_union.specs.Sets.{set_of, plus}
 use Rattle.matroid_union.specs.Union.{names, row, IsUnion}
+use Rattle.matroid_union.proofs.Sizes.{length_of, has_of}
 use Rattle.graphic_matroid.specs.Chosen.{chosen}
 use Rattle.graphic_matroid.specs.Labels.{class, splits, unfit, Labels}
-use Rattle.matroid_union.proofs.Sizes.{length_of, has_of}
-use Rattle.graphic_matroid.specs.Counts.{size-none, some_or_none}
+use Rattle.graphic_matroid.specs.Components.{AreComponents}
+use Rattle.graph_core.proofs.SizeLaws.{weight_true, weight_false, weight_most, count-cons, count-le_three}
+use Rattle.graph_core.proofs.SideLaws.{has-below}
 use Rattle.graphic_matroid.specs.ChosenLaws.{chosen-le, chosen-all, chosen-set, chosen-some, chosen-find}
-use Rattle.graphic_matroid.specs.LabelLaws.{in_class, split_is, split_not, circuit, forest_more}
-use Rattle.graphic_matroid.specs.ForestLaws.{labels_exist, Labelled, fit_ends, fit_at}
+use Rattle.graphic_matroid.specs.LabelLaws.{in_class, to_class, split_is, split_not, forest_more}
+use Rattle.graphic_matroid.specs.ForestLaws.{labels_exist, Labelled, fit_ends}
+use Rattle.graphic_matroid.proofs.ComponentLaws.{differ_weights}
 
 -- the reached lines of part p
 abbrev pub kept_lines : List (List ℕ) → List Bool → ℕ → ℕ → Bool
 kept_lines rows reached p = λ i. names (row rows p) i && has reached i
-
--- classes of nodes: no reached line joins two, each other line does, and the reached lines of each part join each class
-pub record IsDual (n : ℕ) (ls : List Line) (k : ℕ) (rows : List (List ℕ)) (reached : List Bool) (lab : ℕ → ℕ) : Type 0 where
-  pub below : (v : ℕ) → v < n → lab v < n
-  pub closed : count_by (splits lab) (chosen reached ls) ≡ 0
-  pub apart : (e : ℕ) (d : Line) → e < length ls → has reached e ≡ false → splits lab (get_or ls e d) ≡ true
-  pub tight : (p r : ℕ) → p < k → size (class n lab r) ≤ count_by (within (class n lab r)) (chosen (set_of (length ls) (kept_lines rows reached p)) ls) + 1
-
-pub record Dual (n : ℕ) (ls : List Line) (k : ℕ) (rows : List (List ℕ)) (reached : List Bool) : Type 0 where
-  pub lab : ℕ → ℕ
-  pub is : IsDual n ls k rows reached lab
 
 -- the first that passes, or none
 pub find_below : (f : ℕ → Bool) (k : ℕ) → ((p : ℕ) × (p < k) × (f p ≡ true)) ⊎ ((p : ℕ) → p < k → f p ≡ false)
@@ -43,15 +41,27 @@ find_below f (suc k) =
     (cases_Bool (f k)))
     (find_below f k)
 
+differ_same : (a b : Bool) → a ≡ b → differ a b ≡ false
+differ_same true b e = ap not (sym e)
+differ_same false b e = sym e
+
+-- a side has as many of the two ends as say whether the line crosses it or lies within
+crosses_and_within : (a b : Bool) → weight (differ a b) + 2 * weight (a && b) ≡ weight a + weight b
+crosses_and_within true true = refl
+crosses_and_within true false = refl
+crosses_and_within false true = refl
+crosses_and_within false false = refl
+
+count_weights_three : {X : Type 0} (p q r s : X → Bool) → ((x : X) → weight (p x) + 2 * weight (q x) ≡ weight (r x) + weight (s x)) → (xs : List X) → count_by p xs + 2 * count_by q xs ≡ count_by r xs + count_by s xs
+count_weights_three p q r s h [] = refl
+count_weights_three p q r s h (x ∷ xs) = omega (arith, count-cons p x xs, count-cons q x xs, count-cons r x xs, count-cons s x xs, h x, count_weights_three p q r s h xs)
+
 module _ (n : ℕ) (ls : List Line) (fit : count_by (unfit n) ls ≡ 0) (k : ℕ) (rows : List (List ℕ)) (reached : List Bool) (u : IsUnion (length ls) (λ A. IsAcyclic n (chosen A ls)) k rows reached) where
   abbrev kept_set : ℕ → List Bool
   kept_set p = set_of (length ls) (kept_lines rows reached p)
 
   fit_part : (A : List Bool) → count_by (unfit n) (chosen A ls) ≡ 0
   fit_part A = let a = chosen-all (unfit n) A ls in omega arith
-
-  all_labels : Labelled n (chosen reached ls)
-  all_labels = labels_exist n (chosen reached ls) (fit_part reached)
 
   part_labels : (p : ℕ) → Labelled n (chosen (set_of (length ls) (kept_lines rows reached p)) ls)
   part_labels p = labels_exist n (chosen (kept_set p) ls) (fit_part (kept_set p))
@@ -110,63 +120,82 @@ module _ (n : ℕ) (ls : List Line) (fit : count_by (unfit n) ls ≡ 0) (k : ℕ
           ∙ ⊎_elim (λ a. a) (λ b. absurd (ne (eqb-true i e b))) (or_cases (kept_lines rows reached q i) (eqb i e) was))
           (cases_eq i e)
 
-  module _ (p : ℕ) (lp : p < k) where
-    -- the two kinds of classes are the same
-    to_part : (v w : ℕ) → all_labels.lab v ≡ all_labels.lab w → (part_labels p).lab v ≡ (part_labels p).lab w
-    to_part v w = all_labels.finest.coarser (part_labels p).lab (part_closed p lp (part_labels p).lab (part_labels p).is) v w
+  -- a line that crosses a class is parted, or has an end past the nodes
+  crosses_parted : (P : List (List Bool)) → IsPartition n P → (C : List Bool) → ((l : Line) → weight (crosses C l) ≤ count_by (λ X. crosses X l) P) → (l : Line) → weight (crosses C l) ≤ weight (parted P l) + weight (unfit n l) + weight (unfit n l)
+  crosses_parted P part C some l =
+      ⊎_elim
+      (λ o. omega (arith, weight_true (unfit n l) o, weight_most (crosses C l)))
+      (λ o.
+      let ends = fit_ends n l o in
+      let all = count_weights_three (λ X. crosses X l) (λ X. within X l) (λ X. has X l.tail) (λ X. has X l.head) (λ X. crosses_and_within (has X l.tail) (has X l.head)) P in
+      omega (arith, some l, parted-or-within P l (let one = part.each l.tail ends.0 in omega arith), part.each l.tail ends.0, part.each l.head ends.1, weight_most (parted P l), weight_most (crosses C l)))
+      (cases_Bool (unfit n l))
 
-    from_part : (v w : ℕ) → (part_labels p).lab v ≡ (part_labels p).lab w → all_labels.lab v ≡ all_labels.lab w
-    from_part v w =
-        let le = chosen-le (splits all_labels.lab) (kept_set p) reached ls (λ e l h. (in_kept p e l h).1) in
-        let none = all_labels.is.closed in
-        (part_labels p).finest.coarser all_labels.lab (omega arith) v w
+  module _ (P : List (List Bool)) (w : AreComponents n (chosen reached ls) P) (p : ℕ) (lp : p < k) where
+    abbrev label : ℕ → ℕ
+    label = (part_labels p).lab
 
-    same_class : (v : ℕ) → class n (part_labels p).lab ((part_labels p).lab v) ≡ class n all_labels.lab (all_labels.lab v)
-    same_class v = ap (set_of n) (λ t w. at w t)
+    -- a reached line joins no two labels
+    uncut : (X : List Bool) → ((u v : ℕ) → u < n → v < n → label u ≡ label v → has X u ≡ has X v) → degree X (chosen reached ls) ≡ 0
+    uncut X same =
+        let none = part_closed p lp label (part_labels p).is in
+        let fits = fit_part reached in
+        let le = count-le_three (crosses X) (splits label) (unfit n) (unfit n) each (chosen reached ls) in
+        omega arith
       where
-        at : (w : ℕ) → eqb ((part_labels p).lab w) ((part_labels p).lab v) ≡ eqb (all_labels.lab w) (all_labels.lab v)
-        at w =
+        each : (l : Line) → weight (crosses X l) ≤ weight (splits label l) + weight (unfit n l) + weight (unfit n l)
+        each l =
             ⊎_elim
-            (λ e. eq-eqb ((part_labels p).lab w) ((part_labels p).lab v) (to_part w v e) ∙ sym (eq-eqb (all_labels.lab w) (all_labels.lab v) e))
-            (λ ne. ne_eqb ((part_labels p).lab w) ((part_labels p).lab v) (λ e. ne (from_part w v e)) ∙ sym (ne_eqb (all_labels.lab w) (all_labels.lab v) ne))
-            (cases_eq (all_labels.lab w) (all_labels.lab v))
+            (λ s. omega (arith, weight_true (splits label l) s, weight_most (crosses X l)))
+            (λ s. ⊎_elim
+            (λ o. omega (arith, weight_true (unfit n l) o, weight_most (crosses X l)))
+            (λ o.
+            let ends = fit_ends n l o in
+            let alike = same l.tail l.head ends.0 ends.1 (split_not n label l s) in
+            omega (arith, weight_false (crosses X l) (differ_same (has X l.tail) (has X l.head) alike)))
+            (cases_Bool (unfit n l)))
+            (cases_Bool (splits label l))
 
-    class_tight : (r : ℕ) → size (class n all_labels.lab r) ≤ count_by (within (class n all_labels.lab r)) (chosen (set_of (length ls) (kept_lines rows reached p)) ls) + 1
-    class_tight r =
-        ⊎_elim
-        (λ v.
-        let is_r : all_labels.lab v.0 ≡ r = (in_class n all_labels.lab r v.0 v.1).1 in
-        let tight = (part_labels p).is.tight ((part_labels p).lab v.0) in
-        subst (λ x. size (class n all_labels.lab x) ≤ count_by (within (class n all_labels.lab x)) (chosen (kept_set p) ls) + 1) is_r
-        (subst (λ C. size C ≤ count_by (within C) (chosen (kept_set p) ls) + 1) (same_class v.0) tight))
-        (λ none. omega (arith, size-none (class n all_labels.lab r) none))
-        (some_or_none (class n all_labels.lab r))
+    module _ (C : List Bool) (long : length C ≡ n) (whole : (l : Line) → weight (crosses C l) ≤ count_by (λ X. crosses X l) P) (joined : (X : List Bool) (u v : ℕ) → has C u ≡ true → has C v ≡ true → has X u ≡ true → has X v ≡ false → 1 ≤ degree X (chosen reached ls)) (v0 : ℕ) (in_c : has C v0 ≡ true) where
+      one_label : (u : ℕ) → has C u ≡ true → label u ≡ label v0
+      one_label u h =
+          ⊎_elim (λ e. e)
+          (λ ne.
+          let lu : u < n = subst (λ m. u < m) long (has-below C u h) in
+          let X : List Bool = class n label (label u) in
+          let none = uncut (class n label (label u)) (λ a b la lb e. has_of n (λ v. eqb (label v) (label u)) a la ∙ ap (λ x. eqb x (label u)) e ∙ sym (has_of n (λ v. eqb (label v) (label u)) b lb)) in
+          let out : has (class n label (label u)) v0 ≡ false = false_from_ne_true (has (class n label (label u)) v0) (λ t. ne (sym (in_class n label (label u) v0 t).1)) in
+          let some = joined (class n label (label u)) u v0 h in_c (to_class n label (label u) u lu refl) out in
+          absurd (omega arith))
+          (cases_eq (label u) (label v0))
 
-    -- a line of the part that isn't reached joins two classes
-    line_apart : (e : ℕ) (d : Line) → e < length ls → names (row rows p) e ≡ true → has reached e ≡ false → all_labels.lab (get_or ls e d).tail ≡ all_labels.lab (get_or ls e d).head → ⊥
-    line_apart e d l in_p out same =
-        let ends = fit_ends n (get_or ls e d) (fit_at n ls e d fit l) in
-        let fresh : has (kept_set p) e ≡ false = false_from_ne_true (has (kept_set p) e) (λ t. both_ways (has reached e) out (in_kept p e l t).1) in
-        let short : e < length (kept_set p) = rw (length_of (length ls) (kept_lines rows reached p)) l in
-        circuit n (part_labels p).lab (chosen (kept_set p) ls) (get_or ls e d) (chosen (set (kept_set p) e true) ls) (part_labels p).is
-        (record { counts = λ q. chosen-set q (kept_set p) ls e d short l fresh }) ends.0 ends.1 (to_part (get_or ls e d).tail (get_or ls e d).head same)
-        (part_forest p lp (set (kept_set p) e true)
-        (λ i li h. ⊎_elim
-        (λ ie. subst (λ x. names (row rows p) x ≡ true) (sym ie) in_p)
-        (λ ne. (in_kept p i li (sym (get_or-set_other (kept_set p) e i true false ne) ∙ h)).0)
-        (cases_eq i e)))
+      one_class : (u : ℕ) → label u ≡ label v0 → has C u ≡ true
+      one_class u e =
+          let among = chosen-le (splits (λ x. weight (has C x))) (kept_set p) reached ls (λ i l h. (in_kept p i l h).1) in
+          let same : count_by (splits (λ x. weight (has C x))) (chosen reached ls) ≡ degree C (chosen reached ls) = λ t. count_by (λ l. differ_weights (has C l.tail) (has C l.head) t) (chosen reached ls) in
+          let le = count-le_three (crosses C) (parted P) (unfit n) (unfit n) (crosses_parted P w.partition C whole) (chosen reached ls) in
+          let none = w.apart in
+          let fits = fit_part reached in
+          let alike : weight (has C u) ≡ weight (has C v0) = (part_labels p).finest.coarser (λ x. weight (has C x)) (omega arith) u v0 e in
+          true_from_ne_false (has C u) (λ f. absurd (omega (arith, alike, weight_false (has C u) f, weight_true (has C v0) in_c)))
 
-  -- the dual of disjoint forests
-  pub forest_dual : Dual n ls k rows reached
-  forest_dual = record {
-    lab = all_labels.lab;
-    is = record {
-      below = all_labels.is.below;
-      closed = all_labels.is.closed;
-      apart = λ e d l out. ⊎_elim
-          (λ w. true_from_ne_false (splits all_labels.lab (get_or ls e d)) (λ s. line_apart w.0 w.1 e d l w.2 out (split_not n all_labels.lab (get_or ls e d) s)))
-          (λ none. absurd (both_ways (has reached e) out (u.rest e l none)))
-          (find_below (λ p. names (row rows p) e) k);
-      tight = λ p r lp. class_tight p lp r;
-    };
-  }
+      class_is : C ≡ class n label (label v0)
+      class_is = fill_by_all (λ v. eqb (label v) (label v0)) C n false long at
+        where
+          at : (v : ℕ) → v < n → has C v ≡ eqb (label v) (label v0)
+          at v l =
+              ⊎_elim
+              (λ t. t ∙ sym (eq-eqb (label v) (label v0) (one_label v t)))
+              (λ f. f ∙ sym (ne_eqb (label v) (label v0) (λ e. both_ways (has C v) f (one_class v e))))
+              (cases_Bool (has C v))
+
+      class_tight : size C ≤ count_by (within C) (chosen (set_of (length ls) (kept_lines rows reached p)) ls) + 1
+      class_tight = subst (λ X. size X ≤ count_by (within X) (chosen (kept_set p) ls) + 1) (sym class_is) ((part_labels p).is.tight (label v0))
+
+  -- the reached lines of a part join the nodes of each class
+  pub classes_tight : (P : List (List Bool)) → AreComponents n (chosen reached ls) P → (p : ℕ) → p < k → All (λ C. size C ≤ count_by (within C) (chosen (set_of (length ls) (kept_lines rows reached p)) ls) + 1) P
+  classes_tight P w p lp i d l =
+      let C = get_or P i d in
+      let some = w.partition.nonempty i d l in
+      let at : has (get_or P i d) some.some_in.0 ≡ true = get_or_default (get_or P i d) some.some_in.0 false true some.some_in.1 ∙ some.some_in.2 in
+      class_tight P w p lp (get_or P i d) some.long (λ x. get_or-le-sum_by (λ X. weight (crosses X x)) P i d l) (λ X. w.joined X i d l) some.some_in.0 at

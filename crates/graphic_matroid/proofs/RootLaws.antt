@@ -7,10 +7,10 @@ use Rattle.std.proofs.lemmas.List.{length-set, get_or-set_same, get_or-set_other
 use Rattle.graph_core.specs.declared.graph.Line.{Line}
 use Rattle.graph_core.specs.Graph.{Fits}
 use Rattle.graphic_matroid.specs.Labels.{unfit, joined, Adds}
-use Rattle.graphic_matroid.specs.Counts.{weight_false, count-cons}
+use Rattle.graph_core.proofs.SizeLaws.{weight_false, count-cons}
 use Rattle.graphic_matroid.specs.Roots.{AreRoots, AreClasses}
 use Rattle.graphic_matroid.specs.JoinLaws.{joined_at, joined_off, joined_same, labels_more}
-use Rattle.graphic_matroid.specs.ForestLaws.{labels_none}
+use Rattle.graphic_matroid.specs.ForestLaws.{labels_none, finest_none, finest_more}
 
 -- a write, read back
 at_set : (xs : List ℕ) (i v k : ℕ) → i < length xs → k ≡ i → get_or (set xs i v) k 0 ≡ v
@@ -65,7 +65,7 @@ rank_raised ranks a more v l up =
 
 -- each node alone
 pub classes_none : (n : ℕ) (parents : List ℕ) → ((v : ℕ) → v < n → get_or parents v 0 ≡ v) → AreClasses n parents []
-classes_none n parents h = record { label = λ v. v; is = labels_none n; along = h; apart = λ u v lu lv ru rv e. e }
+classes_none n parents h = record { label = λ v. v; is = labels_none n; finest = finest_none; along = h; apart = λ u v lu lv ru rv e. e }
 
 module _ (n : ℕ) (parents : List ℕ) (ls : List Line) (l : Line) (more : List Line) (long : length parents ≡ n) (w : AreClasses n parents ls) (adds : Adds ls l more) (lt : l.tail < n) (lh : l.head < n) where
   abbrev new : ℕ → ℕ
@@ -124,6 +124,7 @@ module _ (n : ℕ) (parents : List ℕ) (ls : List Line) (l : Line) (more : List
       classes_joined = record {
         label = joined w.label (w.label l.tail) (w.label l.head);
         is = labels_more n w.label ls l more w.is adds lt lh;
+        finest = finest_more w.label ls l more w.finest adds;
         along = λ v lv. ⊎_elim
             (λ e. ap (joined w.label (w.label l.tail) (w.label l.head)) (at_set parents c d v short e) ∙ one_label ∙ ap (joined w.label (w.label l.tail) (w.label l.head)) (sym e))
             (λ no. ap (joined w.label (w.label l.tail) (w.label l.head)) (get_or-set_other parents c v d 0 no) ∙ joined_same w.label (w.label l.tail) (w.label l.head) (get_or parents v 0) v (w.along v lv))

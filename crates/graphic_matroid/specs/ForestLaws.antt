@@ -11,13 +11,14 @@ use Rattle.graph_core.specs.Trees.{IsAcyclic}
 use Rattle.graph_core.specs.declared.graph.Line.{Line}
 use Rattle.matroid_union.specs.Matroid.{IsMatroid, Takes}
 use Rattle.graphic_matroid.specs.Chosen.{chosen}
-use Rattle.graphic_matroid.specs.Labels.{class, splits, joined, unfit, Labels, Adds}
+use Rattle.graphic_matroid.specs.Labels.{class, splits, joined, unfit, Labels, Adds, Finest}
 use Rattle.graphic_matroid.specs.ChosenLaws.{chosen-le, chosen-all, chosen-none, chosen-set, chosen-some, chosen-find, chosen-size, chosen-take, chosen-take_le}
 use Rattle.graphic_matroid.specs.LabelLaws.{in_class, to_class, split_not, split_is, forest_more}
 use Rattle.graphic_matroid.specs.JoinLaws.{labels_more, joined_at, joined_off}
 use Rattle.graph_core.proofs.Counting.{weight, sum_by-add, sum_by-swap}
 use Rattle.matroid_union.proofs.Sizes.{length_of}
-use Rattle.graphic_matroid.specs.Counts.{weight_true, weight_false, weight_most, count-cons, count-none, sum-le, sum_one, nonempty, some_or_none}
+use Rattle.graph_core.proofs.SizeLaws.{weight_true, weight_false, weight_most, count-cons, count-none, sum-le, sum_one, some_or_none}
+use Rattle.graph_core.proofs.SideLaws.{nonempty-has}
 
 -- the ends of a line that is fit
 pub fit_ends : (n : ℕ) (l : Line) → unfit n l ≡ false → (l.tail < n) × (l.head < n)
@@ -43,14 +44,10 @@ labels_none n = record {
       omega arith;
 }
 
--- any labels that no line splits are coarser
-pub record Finest (lab : ℕ → ℕ) (ls : List Line) : Type 0 where
-  pub coarser : (f : ℕ → ℕ) → count_by (splits f) ls ≡ 0 → (u v : ℕ) → lab u ≡ lab v → f u ≡ f v
-
-finest_none : Finest (λ v. v) []
+pub finest_none : Finest (λ v. v) []
 finest_none = record { coarser = λ f _ u v e. ap f e }
 
-finest_more : (lab : ℕ → ℕ) (ls : List Line) (l : Line) (more : List Line) → Finest lab ls → Adds ls l more → Finest (joined lab (lab l.tail) (lab l.head)) more
+pub finest_more : (lab : ℕ → ℕ) (ls : List Line) (l : Line) (more : List Line) → Finest lab ls → Adds ls l more → Finest (joined lab (lab l.tail) (lab l.head)) more
 finest_more lab ls l more w adds = record {
   coarser = λ f closed u v e.
       let counted = adds.counts (splits f) in
@@ -138,7 +135,7 @@ module _ (n : ℕ) (lab : ℕ → ℕ) where
     class_le r =
         ⊎_elim
         (λ v.
-        let few : count_by (within (class n lab r)) more < size (class n lab r) = forest (class n lab r) (nonempty n (class n lab r) v.0 (length_of n (λ x. eqb (lab x) r)) v.1) in
+        let few : count_by (within (class n lab r)) more < size (class n lab r) = forest (class n lab r) (nonempty-has n (class n lab r) v.0 (length_of n (λ x. eqb (lab x) r)) v.1) in
         omega (arith, w.tight r))
         (λ none. omega (arith, count-none (within (class n lab r)) (λ l. and_left (has (class n lab r) l.tail) (has (class n lab r) l.head) (none l.tail)) more))
         (some_or_none (class n lab r))

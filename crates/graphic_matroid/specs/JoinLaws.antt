@@ -10,7 +10,7 @@ use Rattle.graphic_matroid.specs.LabelLaws.{in_class, to_class, split_not, split
 use Rattle.graph_core.proofs.Counting.{weight}
 use Rattle.graph_core.proofs.FamilyLaws.{count_by-le}
 use Rattle.matroid_union.proofs.Sizes.{length_of}
-use Rattle.graphic_matroid.specs.Counts.{weight_true, weight_false, weight_most, count-le_both, size-le_sum, size-none}
+use Rattle.graph_core.proofs.SizeLaws.{weight_true, weight_false, weight_most, count-le_both, size-le_sum, size-none}
 
 module _ (lab : ℕ → ℕ) (a b : ℕ) where
   pub joined_at : (v : ℕ) → lab v ≡ a → joined lab a b v ≡ b
@@ -23,7 +23,7 @@ module _ (lab : ℕ → ℕ) (a b : ℕ) where
   joined_same u v e = ap (λ x. cond (eqb x a) b x) e
 
   -- where a and b are one label, nothing changes
-  joined_none : a ≡ b → joined lab a b ≡ lab
+  pub joined_none : a ≡ b → joined lab a b ≡ lab
   joined_none e = λ t v. at v t
     where
       at : (v : ℕ) → joined lab a b v ≡ lab v

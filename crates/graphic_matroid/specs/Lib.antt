@@ -1,7 +1,8 @@
 pub mod Chosen
 pub mod Labels
 pub mod Roots
-pub mod Counts
+pub mod Components
+pub mod Forests
 pub mod ChosenLaws
 pub mod LabelLaws
 pub mod JoinLaws

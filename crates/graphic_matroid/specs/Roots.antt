@@ -1,7 +1,7 @@
 -- Classes of nodes as trees of parents.
 use Rattle.std.specs.Prelude.{◌≡◌, ◌≢◌, ℕ, ◌<◌, List, length, slice_index}
 use Rattle.graph_core.specs.declared.graph.Line.{Line}
-use Rattle.graphic_matroid.specs.Labels.{Labels}
+use Rattle.graphic_matroid.specs.Labels.{Labels, Finest}
 
 -- each node has a parent; one that isn't its own parent has a smaller rank than it
 pub record AreRoots (n : ℕ) (parents ranks : List ℕ) : Type 0 where
@@ -14,5 +14,6 @@ pub record AreRoots (n : ℕ) (parents ranks : List ℕ) : Type 0 where
 pub record AreClasses (n : ℕ) (parents : List ℕ) (ls : List Line) : Type 0 where
   pub label : ℕ → ℕ
   pub is : Labels n label ls
+  pub finest : Finest label ls
   pub along : (v : ℕ) → v < n → label (slice_index parents v) ≡ label v
   pub apart : (u v : ℕ) → u < n → v < n → slice_index parents u ≡ u → slice_index parents v ≡ v → label u ≡ label v → u ≡ v

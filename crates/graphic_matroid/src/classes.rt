@@ -1,5 +1,11 @@
-ghost use Rattle.std.specs.Prelude.{◌≡◌, ◌≢◌, ◌⊎◌, ℕ, ◌+◌, ◌<◌, ◌≤◌, ◌^◌, length, slice_index, slice_set};
-ghost use Rattle.graphic_matroid.specs.Roots.{AreRoots};
+ghost use Rattle.std.specs.Prelude.{◌≡◌, ◌≢◌, ◌⊎◌, ◌↔◌, ℕ, ◌+◌, ◌<◌, ◌≤◌, ◌^◌, List, length, slice_index, slice_set, IsTrue, IfOk};
+ghost use Rattle.graph_core.specs.Trees.{IsAcyclic};
+ghost use Rattle.graph_core.specs.declared.graph.Line.{Line as LineOf};
+ghost use Rattle.graphic_matroid.specs.Labels.{Adds};
+ghost use Rattle.graphic_matroid.specs.Roots.{AreRoots, AreClasses};
+
+use graph_core::{Line, NoMemory};
+use std::alloc::Global;
 
 /// Classes of nodes as trees of parents, whose roots stand for the classes. A node has a smaller rank
 /// than its parent, and a class of rank r has at least 2^r nodes, so that a walk to the root is short.
@@ -10,6 +16,16 @@ pub(crate) struct Classes {
 }
 
 impl Classes {
+    /// Room for the classes of `n` nodes.
+    pub(crate) fn new(alloc: Global, n: usize) -> Result<Classes, NoMemory>
+        ensures parents_long { IfOk result (λ c. length c.parents.items ≡ n) }
+        ensures ranks_long { IfOk result (λ c. length c.ranks.items ≡ n) }
+    {
+        let parents = zeros(alloc, n)?;
+        let ranks = zeros(alloc, n)?;
+        Ok(Classes { parents, ranks })
+    }
+
     /// Makes each node a class of its own.
     pub(crate) fn reset(&mut self)
         requires alike { length self.old.ranks.items ≡ length self.old.parents.items }
@@ -65,4 +81,37 @@ impl Classes {
             self.parents[b as usize] = a;
         }
     }
+
+    /// Makes one class of those of the line's two ends, and says whether they were two.
+    pub(crate) fn join_ends(&mut self, line: Line) -> bool
+        requires roots { AreRoots (length self.old.parents.items) self.old.parents.items self.old.ranks.items }
+        requires tail { line.tail < length self.old.parents.items }
+        requires head { line.head < length self.old.parents.items }
+        requires low { (v : ℕ) → v < length self.old.parents.items → slice_index self.old.ranks.items v + 1 < 2 ^ 32 }
+        ensures roots { AreRoots (length self.old.parents.items) self.new.parents.items self.new.ranks.items }
+        ensures low { (v : ℕ) → v < length self.old.parents.items → slice_index self.new.ranks.items v ≤ slice_index self.old.ranks.items v + 1 }
+        ensures classes { (ls more : List LineOf) → AreClasses (length self.old.parents.items) self.old.parents.items ls → Adds ls line more → AreClasses (length self.old.parents.items) self.new.parents.items more }
+        ensures forest { (ls more : List LineOf) → AreClasses (length self.old.parents.items) self.old.parents.items ls → Adds ls line more → IsAcyclic (length self.old.parents.items) ls → (IsTrue result ↔ IsAcyclic (length self.old.parents.items) more) }
+    {
+        let tail = self.root(line.tail);
+        let head = self.root(line.head);
+        if tail == head {
+            return false;
+        }
+        self.join(tail, head);
+        true
+    }
+}
+
+/// One number for each node.
+fn zeros(alloc: Global, n: usize) -> Result<Vec<u32>, NoMemory>
+    ensures { IfOk result (λ v. length v.items ≡ n) }
+{
+    let mut numbers = Vec::new(alloc);
+    for _ in 0..n {
+        if numbers.push(0).is_err() {
+            return Err(NoMemory);
+        }
+    }
+    Ok(numbers)
 }

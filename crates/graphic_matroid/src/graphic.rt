@@ -32,9 +32,7 @@ impl Graphic {
         let Ok(lines) = Vec::from_slice(alloc, graph.lines()) else {
             return Err(NoMemory);
         };
-        let parents = zeros(alloc, nodes)?;
-        let ranks = zeros(alloc, nodes)?;
-        let classes = Classes { parents, ranks };
+        let classes = Classes::new(alloc, nodes)?;
         Ok(Graphic {
             nodes,
             lines,
@@ -77,28 +75,9 @@ fn is_forest(lines: &[Line], set: &Marks, classes: &mut Classes) -> bool
 {
     classes.reset();
     for j in 0..lines.len() {
-        if *set.item(j) {
-            let line = lines[j];
-            let tail = classes.root(line.tail);
-            let head = classes.root(line.head);
-            if tail == head {
-                return false;
-            }
-            classes.join(tail, head);
+        if *set.item(j) && !classes.join_ends(lines[j]) {
+            return false;
         }
     }
     true
-}
-
-/// One number for each node.
-fn zeros(alloc: Global, n: usize) -> Result<Vec<u32>, NoMemory>
-    ensures { IfOk result (λ v. length v.items ≡ n) }
-{
-    let mut numbers = Vec::new(alloc);
-    for _ in 0..n {
-        if numbers.push(0).is_err() {
-            return Err(NoMemory);
-        }
-    }
-    Ok(numbers)
 }

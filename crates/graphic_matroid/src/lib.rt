@@ -2,8 +2,12 @@
 #![tactic(auto)]
 
 mod classes;
+mod component;
+mod forests;
 mod graphic;
 
+pub use component::components;
+pub use forests::{Forests, most_forests, no_more_lines};
 pub use graphic::Graphic;
 
 #[cfg(test)]

@@ -14,6 +14,6 @@ invariant_of-result c =
       few_lines = subst (λ ls. length ls ≤ 65536) (sym lines) few;
       fit = subst (λ ls. count_by (unfit c.node_count-nodes.result) ls ≡ 0) (sym lines)
           (subst (λ n. count_by (unfit n) c.args.graph.now.lines ≡ 0) (sym count) (count_by-unfit (length c.args.graph.now.names) c.args.graph.now.lines c.known.ensures.ends));
-      parents_long = c.in_ok-parents.ensures;
-      ranks_long = c.in_ok-ranks.ensures;
+      parents_long = c.in_ok-classes.ensures.parents_long;
+      ranks_long = c.in_ok-classes.ensures.ranks_long;
     }

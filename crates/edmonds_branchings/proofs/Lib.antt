@@ -1,0 +1,13 @@
+pub mod Arborescence
+pub mod Begin
+pub mod Capacity
+pub mod LeastSide
+pub mod Lovasz
+pub mod Made
+pub mod MayTake
+pub mod Packed
+pub mod Refused
+pub mod Row
+pub mod Sizes
+pub mod Start
+pub mod Taken

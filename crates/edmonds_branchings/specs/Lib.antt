@@ -1,0 +1,5 @@
+pub mod LeastSide
+pub mod Network
+pub mod Rooted
+pub mod Round
+pub mod Row

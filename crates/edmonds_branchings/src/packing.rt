@@ -1,0 +1,31 @@
+ghost use Rattle.std.specs.Prelude.{◌≡◌, ◌≤◌, length, IfOk};
+ghost use Rattle.graph_core.specs.Graph.{IsWithinSize};
+ghost use Rattle.graph_core.specs.declared.graph.Kind.TheVariants.{Directed};
+ghost use Rattle.edmonds_branchings.specs.Rooted.{CanBePacked, ArePacked};
+
+use crate::network::network;
+use crate::round::make_branching;
+use graph_core::{Counts, Graph, NoMemory, NumberRows};
+use std::alloc::Global;
+
+/// Packs `k` branchings, of which at most `roots[v]` begin at each node v (Edmonds 1973, by Lovász's proof of 1976).
+pub fn pack_rooted(
+    alloc: Global,
+    graph: &Graph,
+    roots: &Counts,
+    k: u32,
+) -> Result<NumberRows, NoMemory>
+    requires kind { graph.now.kind ≡ Directed }
+    requires size { IsWithinSize graph.now }
+    requires few { k ≤ 8192 }
+    requires ready { CanBePacked (length graph.now.names) k graph.now.lines roots.now }
+    ensures { IfOk result (ArePacked (length graph.now.names) k graph.now.lines roots.now) }
+{
+    let mut arcs = network(alloc, graph, roots)?;
+    let mut rows = NumberRows::new(alloc);
+    for made in 0..k {
+        let row = make_branching(alloc, graph, &mut arcs, k - made)?;
+        rows.push(row)?;
+    }
+    Ok(rows)
+}

@@ -1,5 +1,0 @@
-use Rattle.std.proofs.Common.{ap, arith}
-use Rattle.flow_cuts.proofs.tests.shows.Goals as goal
-
-pub side-requires-clause-short : goal.side-requires-clause-short
-side-requires-clause-short g c = (_, ap (λ f. f.last) c.run-answer.ensures.ran, omega arith)

@@ -1,0 +1,10 @@
+//! The fewest forests that cover the edges of a graph, by disjoint forests.
+#![tactic(auto)]
+
+mod cover;
+mod dense;
+
+pub use cover::cover_forests;
+
+#[cfg(test)]
+mod tests;

@@ -1,0 +1,2 @@
+mod Singles
+mod Finer

@@ -1,0 +1,10 @@
+//! The most edge-disjoint spanning trees, by disjoint forests.
+#![tactic(auto)]
+
+mod first;
+mod packing;
+
+pub use packing::pack_trees;
+
+#[cfg(test)]
+mod tests;
