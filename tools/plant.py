@@ -154,8 +154,8 @@ def judged(plant, said):
         return "unread", said[:300]
     if found[1] == "proved":
         return "proved", ""
-    if "did not prove" in found[1]:
-        return "refused", found[1].split("; ")[-1]
+    if goals := re.search(r"`search` did not prove [^;]*", found[1]):
+        return "refused", goals[0]
     folder = "/".join(plant.function.split("::")[1:])
     errors = re.findall(rf"^\./proofs/{re.escape(folder)}/(\w+\.antt:\d+:\d+: error: .*)", said, re.M)
     true = [error for error in errors if not NAMES_ONLY.search(error)]

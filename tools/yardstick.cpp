@@ -124,29 +124,54 @@ int arborescences(const Graph& graph, int root) {
     return k;
 }
 
-// Disjoint forests by exchanges along shortest paths (Edmonds; Roskind and Tarjan).
+// Disjoint forests by exchanges along shortest paths (Edmonds; Roskind and Tarjan). What a search reached in vain stays dead.
 struct Forests {
     const Graph& graph;
     int k;
     vector<int> owner;
-    Forests(const Graph& g, int k) : graph(g), k(k), owner(g.lines.size(), -1) {}
+    vector<char> dead;
+    // For each forest and node: the node before it, the line to that, and how many lines lead to the root.
+    vector<vector<int>> before, via, depth;
 
-    // The path of forest i between the ends of line e, or nothing where it has none.
-    bool path(int i, int e, vector<int>& found) {
+    Forests(const Graph& g, int k)
+        : graph(g), k(k), owner(g.lines.size(), -1), dead(g.lines.size()), before(k), via(k), depth(k) {
+        for (int i = 0; i < k; i++) renew(i);
+    }
+
+    void renew(int i) {
         vector<vector<pair<int, int>>> next(graph.nodes());
-        for (size_t j = 0; j < owner.size(); j++)
+        for (int j = 0; j < (int)owner.size(); j++)
             if (owner[j] == i) {
-                next[graph.lines[j].tail].push_back({graph.lines[j].head, (int)j});
-                next[graph.lines[j].head].push_back({graph.lines[j].tail, (int)j});
+                next[graph.lines[j].tail].push_back({graph.lines[j].head, j});
+                next[graph.lines[j].head].push_back({graph.lines[j].tail, j});
             }
-        vector<int> via(graph.nodes(), -2), before(graph.nodes(), -1);
-        queue<int> todo;
-        via[graph.lines[e].tail] = -1;
-        for (todo.push(graph.lines[e].tail); !todo.empty(); todo.pop())
-            for (auto [v, j] : next[todo.front()])
-                if (via[v] == -2) via[v] = j, before[v] = todo.front(), todo.push(v);
-        if (via[graph.lines[e].head] == -2) return false;
-        for (int v = graph.lines[e].head; via[v] != -1; v = before[v]) found.push_back(via[v]);
+        before[i].assign(graph.nodes(), -1);
+        via[i].assign(graph.nodes(), -1);
+        depth[i].assign(graph.nodes(), -1);
+        for (int root = 0; root < graph.nodes(); root++) {
+            if (depth[i][root] >= 0) continue;
+            vector<int> todo = {root};
+            depth[i][root] = 0;
+            for (size_t at = 0; at < todo.size(); at++)
+                for (auto [v, j] : next[todo[at]])
+                    if (depth[i][v] < 0) {
+                        depth[i][v] = depth[i][todo[at]] + 1;
+                        before[i][v] = todo[at];
+                        via[i][v] = j;
+                        todo.push_back(v);
+                    }
+        }
+    }
+
+    // The lines of forest i between the ends of line e; false where it has no such path.
+    bool path(int i, int e, vector<int>& found) const {
+        auto [u, v] = graph.lines[e];
+        while (u != v) {
+            if (depth[i][u] < depth[i][v]) swap(u, v);
+            if (before[i][u] < 0) return false;
+            found.push_back(via[i][u]);
+            u = before[i][u];
+        }
         return true;
     }
 
@@ -159,30 +184,41 @@ struct Forests {
                 vector<int> circuit;
                 if (owner[e] == i) continue;
                 if (!path(i, e, circuit)) {
-                    for (int into = i; e != -1; e = back[e]) swap(into, owner[e]);
+                    vector<char> changed(k);
+                    changed[i] = true;
+                    for (int into = i; e != -1; e = back[e]) {
+                        if (owner[e] >= 0) changed[owner[e]] = true;
+                        swap(into, owner[e]);
+                    }
+                    for (int c = 0; c < k; c++)
+                        if (changed[c]) renew(c);
                     return true;
                 }
                 for (int j : circuit)
-                    if (back[j] == -2) back[j] = e, todo.push_back(j);
+                    if (back[j] == -2 && !dead[j]) back[j] = e, todo.push_back(j);
             }
+        for (int e : todo) dead[e] = true;
         return false;
     }
 
     int most() {
         int count = 0;
-        for (size_t e = 0; e < owner.size(); e++) count += add((int)e);
+        for (int e = 0; e < (int)owner.size(); e++) count += add(e);
         return count;
     }
 };
 
 int trees(const Graph& graph) {
-    for (int k = 1;; k++)
-        if (Forests(graph, k).most() < k * (graph.nodes() - 1)) return k - 1;
+    int k = (int)graph.lines.size() / (graph.nodes() - 1);
+    while (Forests(graph, k).most() < k * (graph.nodes() - 1)) k--;
+    return k;
 }
 
 int forests(const Graph& graph) {
-    for (int k = 0;; k++)
-        if (Forests(graph, k).most() == (int)graph.lines.size()) return k;
+    int k = 0;
+    if (!graph.lines.empty()) k = ((int)graph.lines.size() - 1) / (graph.nodes() - 1) + 1;
+    while (Forests(graph, k).most() < (int)graph.lines.size()) k++;
+    return k;
 }
 
 int main(int count, char** words) {
