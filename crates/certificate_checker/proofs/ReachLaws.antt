@@ -10,11 +10,7 @@ use Rattle.graph_core.proofs.SizeLaws.{size-none}
 use Rattle.graph_core.proofs.Counting.{weight}
 use Rattle.graph_core.proofs.FamilyLaws.{count_by-le}
 use Rattle.certificate_checker.specs.TreeSides.{pair_at, inside, AreUncrossed, AddsOther, IsGrown, IsReach}
-
-pub size-put : (X : List Bool) (v : ℕ) → v < length X → has X v ≡ false → size (slice_set X v true) ≡ size X + 1
-size-put [] v l h = absurd (omega arith)
-size-put (x ∷ X) zero l h = omega (arith, sum_by-cons weight true X, sum_by-cons weight x X, ap weight h)
-size-put (x ∷ X) (suc v) l h = omega (arith, sum_by-cons weight x (slice_set X v true), sum_by-cons weight x X, size-put X v (omega arith) h)
+use Rattle.graph_core.proofs.PutLaws.{size-put}
 
 pub has-put : (X : List Bool) (v : ℕ) → v < length X → has (slice_set X v true) v ≡ true
 has-put [] v l = absurd (omega arith)

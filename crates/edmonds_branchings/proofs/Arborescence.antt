@@ -3,7 +3,7 @@ use Rattle.std.specs.Prelude.{ℕ, zero, suc, ◌≡◌, ◌≢◌, ◌+◌, ◌
 use Rattle.std.proofs.Common.{sym, ap, ◌∙◌, inl, inr, arith}
 use Rattle.std.proofs.lemmas.Bool.{cases_eq, ne_eqb, eq-eqb}
 use Rattle.std.proofs.lemmas.List.{length-set, length-replicate, get_or-replicate, get_or-set_same, get_or-set_other}
-use Rattle.std.proofs.lemmas.List.Sums.{sum_by-cons, sum_by-set}
+use Rattle.std.proofs.lemmas.List.Sums.{sum_by-set}
 use Rattle.std.proofs.lemmas.List.Elements.{All-weaker}
 use Rattle.graph_core.specs.Graph.{Fits}
 use Rattle.graph_core.specs.Side.{has, size}
@@ -11,14 +11,10 @@ use Rattle.graph_core.specs.Lines.{within, entering, induced}
 use Rattle.graph_core.specs.Picked.{picked}
 use Rattle.graph_core.specs.Trees.{in_degree, IsBranching, IsSpanningArborescence}
 use Rattle.graph_core.proofs.Counting.{weight, sum_by-add, sum_by-ones, All-picked, length-all_picked}
-use Rattle.graph_core.proofs.SideLaws.{contains-has}
+use Rattle.graph_core.proofs.SideLaws.{contains-has, has-below}
 use Rattle.graph_core.specs.declared.graph.Line.{Line}
-use Rattle.edmonds_branchings.proofs.Sizes.{has_within}
-use Rattle.edmonds_branchings.proofs.Heads.{nodes_ones, heads_in, heads_split}
-
-size-all : (n : ℕ) → size (replicate n true) ≡ n
-size-all zero = refl
-size-all (suc n) = omega (arith, sum_by-cons weight true (replicate n true), size-all n)
+use Rattle.graph_core.proofs.HeadLaws.{nodes_ones, heads_in, heads_split}
+use Rattle.graph_core.proofs.SizeLaws.{size-all}
 
 one_or_none : (d : ℕ) → d ≤ 1 → (d == 0) ≡ false → d ≡ 1
 one_or_none zero one h = absurd (cc (h))
@@ -42,7 +38,7 @@ module _ {n : ℕ} {ls : List Line} (r : ℕ) (below : r < n) (fits : All (Fits 
   heads : (X : List Bool) → length X ≡ n → has X r ≡ false → entering X P + induced X P ≡ size X
   heads X long out =
       sym (heads_split X P) ∙ sym (heads_in X P)
-      ∙ nodes_ones (λ v. in_degree v P) X (λ v h. others v (omega (arith, has_within X v h)) (λ e. absurd (cc (ap (has X) e, h, out))))
+      ∙ nodes_ones (λ v. in_degree v P) X (λ v h. others v (omega (arith, has-below X v h)) (λ e. absurd (cc (ap (has X) e, h, out))))
 
   fit : All (Fits n) P
   fit = All-picked (Fits n) ls row fits

@@ -12,8 +12,8 @@ use Rattle.flow_cuts.specs.declared.network.Cap.{Cap}
 use Rattle.edmonds_branchings.specs.Network.{IsLeft}
 use Rattle.edmonds_branchings.specs.Round.{HasCapacity, IsRound, AreRefused}
 use Rattle.edmonds_branchings.specs.Row.{IsRow}
-use Rattle.edmonds_branchings.proofs.Sizes.{put_here, size-put}
 use Rattle.edmonds_branchings.proofs.Row.{IsInner}
+use Rattle.graph_core.proofs.PutLaws.{put_here, size-put}
 
 none_of : (m v : ℕ) → has (replicate m false) v ≡ false
 none_of zero v = refl

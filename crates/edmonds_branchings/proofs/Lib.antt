@@ -1,7 +1,6 @@
 pub mod Arborescence
 pub mod Begin
 pub mod Capacity
-pub mod Heads
 pub mod LeastSide
 pub mod Lovasz
 pub mod Made
@@ -10,6 +9,5 @@ pub mod OneRoot
 pub mod Packed
 pub mod Refused
 pub mod Row
-pub mod Sizes
 pub mod Start
 pub mod Taken

@@ -6,7 +6,7 @@ use Rattle.std.proofs.lemmas.Simd.{length-zip2}
 use Rattle.std.proofs.lemmas.List.Elements.{All-from_get_or}
 use Rattle.std.proofs.lemmas.List.{length-map}
 use Rattle.graph_core.specs.Side.{has, size, meet, join, minus, complement}
-use Rattle.graph_core.proofs.SideLaws.{has-zip2, has-minus, has-complement}
+use Rattle.graph_core.proofs.SideLaws.{has-zip2, has-minus, has-complement, has-below}
 use Rattle.graph_core.proofs.Counting.{sum_by-le_each, sum_by-zero}
 use Rattle.graph_core.proofs.SplitLaws.{size-split, size-has}
 use Rattle.flow_cuts.specs.declared.network.Cap.{Cap}
@@ -14,7 +14,6 @@ use Rattle.flow_cuts.specs.Network.{across, leaving, capacity}
 use Rattle.edmonds_branchings.specs.Network.{no_arc, cap_at, AreEnds}
 use Rattle.edmonds_branchings.specs.Round.{IsRootless, AreApart, IsRound, IsBlocked, IsEligible}
 use Rattle.edmonds_branchings.proofs.Capacity.{capacity_meets}
-use Rattle.edmonds_branchings.proofs.Sizes.{has_within}
 
 -- an arc that leaves X - T leaves X, or leads from X - T to the part of X in T
 across_part : (a b c d : Bool) (r : ℕ) → (a ≡ true → b ≡ true → c ≡ false → d ≡ true → 0 < r → ⊥) → across (a && not c) (b && not d) r ≤ across a b r
@@ -97,7 +96,7 @@ module _ {n k : ℕ} (arcs : List Cap) (T : List Bool) (round : IsRound n k arcs
         last_out = rw (inside n (omega arith), round.last) refl;
       } in
       let apart : AreApart V T = λ v h.
-      let l : v < n + 1 = omega (arith, has_within V v h, rest.long) in
+      let l : v < n + 1 = omega (arith, has-below V v h, rest.long) in
       not_in T v (sym (inside v l) ∙ h) in
       let none : All (λ a. leaving V a ≤ 0) arcs = All-from_get_or (λ a. leaving V a ≤ 0) arcs no_arc
       (λ j l.

@@ -12,7 +12,7 @@ use Rattle.flow_cuts.specs.declared.network.Cap.{Cap}
 use Rattle.edmonds_branchings.specs.Network.{cap_at}
 use Rattle.edmonds_branchings.specs.Round.{IsRound}
 use Rattle.edmonds_branchings.specs.Row.{IsRow, IsMade}
-use Rattle.edmonds_branchings.proofs.Sizes.{all_there}
+use Rattle.graph_core.proofs.PutLaws.{all_there}
 
 -- numbers below m are no larger number
 pub none_past : (m j : ℕ) (row : List ℕ) → All (λ i. i < m) row → m ≤ j → occurrences j row ≡ 0

@@ -15,7 +15,7 @@ use Rattle.graph_core.specs.declared.graph.Line.{Line}
 use Rattle.edmonds_branchings.specs.LeastSide.{IsLeastSide}
 use Rattle.edmonds_branchings.specs.Rooted.{CanBePacked, ArePacked}
 use Rattle.edmonds_branchings.proofs.Arborescence.{spanning}
-use Rattle.edmonds_branchings.proofs.Heads.{node-le-sum}
+use Rattle.graph_core.proofs.HeadLaws.{node-le-sum}
 
 -- where no row passes, each fails
 none_pass : {A : Type 0} (p : A → Bool) (xs : List A) → count_by p xs ≡ 0 → All (λ x. p x ≡ false) xs

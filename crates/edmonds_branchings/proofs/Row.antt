@@ -10,15 +10,15 @@ use Rattle.graph_core.specs.Lines.{within, induced}
 use Rattle.graph_core.specs.Picked.{picked}
 use Rattle.graph_core.specs.Trees.{in_degree, IsAcyclic}
 use Rattle.graph_core.proofs.Counting.{weight, sum_by-agree}
-use Rattle.graph_core.proofs.SideLaws.{contains-has}
+use Rattle.graph_core.proofs.SideLaws.{contains-has, has-below}
 use Rattle.graph_core.specs.declared.graph.Line.{Line}
 use Rattle.flow_cuts.specs.declared.network.Cap.{Cap}
 use Rattle.edmonds_branchings.specs.Network.{cap_at, taken}
 use Rattle.edmonds_branchings.specs.Round.{IsEligible}
 use Rattle.edmonds_branchings.specs.Row.{row_with, IsRow}
 use Rattle.edmonds_branchings.proofs.Capacity.{left_within}
-use Rattle.edmonds_branchings.proofs.Sizes.{has_within, put_here, put_kept}
 use Rattle.edmonds_branchings.proofs.Taken.{some_line, cap-taken, left_taken}
+use Rattle.graph_core.proofs.PutLaws.{put_here, put_kept}
 
 -- the ends of a line are covered
 abbrev pub IsInner : List Bool → Line → Type 0
@@ -36,7 +36,7 @@ acyclic_more n ls l T old inner tail out X x =
           let v = l.head in
           let Y = slice_set X v false in
           let (tail_x, head_x) = and_parts (has X l.tail) (has X v) inside in
-          let smaller : size Y + weight (has X v) ≡ size X + 0 = sum_by-set weight X v false false (has_within X v head_x) in
+          let smaller : size Y + weight (has X v) ≡ size X + 0 = sum_by-set weight X v false false (has-below X v head_x) in
           let y : IsNonempty n Y = record {
             long = length-set X v false ∙ x.long;
             some_in = contains-has Y l.tail (get_or-set_other X v l.tail false false (apart_in T l.tail v tail out) ∙ tail_x);

@@ -14,7 +14,7 @@ use Rattle.flow_cuts.specs.Network.{across, capacity}
 use Rattle.edmonds_branchings.specs.Network.{no_arc, cap_at, taken, AreEnds, IsLeft}
 use Rattle.edmonds_branchings.specs.Round.{AreApart, IsRound, IsFree, IsEligible}
 use Rattle.edmonds_branchings.proofs.Capacity.{left_within, capacity-taken, tail-taken, head-taken}
-use Rattle.edmonds_branchings.proofs.Sizes.{put_here, put_kept}
+use Rattle.graph_core.proofs.PutLaws.{put_here, put_kept}
 
 no_line : Line
 no_line = record { tail = 0; head = 0; fixed = false }

@@ -6,9 +6,9 @@ use Rattle.edmonds_branchings.specs.Round.{IsEligible, IsBlocked}
 use Rattle.edmonds_branchings.proofs.Capacity.{left_within}
 use Rattle.edmonds_branchings.proofs.Lovasz.{some_free}
 use Rattle.edmonds_branchings.proofs.Refused.{refused_more}
-use Rattle.edmonds_branchings.proofs.Sizes.{some_missing, put_here, put_kept}
 use Rattle.edmonds_branchings.proofs.round.find_step.Goals as goal
 use Rattle.edmonds_branchings.proofs.round.find_step.Goals.{then-is_eligible+then-not-has+in_ok-may_take+else-branch, else-is_eligible, else-is_eligible-via-then-is_eligible+else-not-has, else-is_eligible-via-else-is_eligible}
+use Rattle.graph_core.proofs.PutLaws.{some_missing, put_here, put_kept}
 
 pub loop-j-preserved : goal.loop-j-preserved
 loop-j-preserved c =

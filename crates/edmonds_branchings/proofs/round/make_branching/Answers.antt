@@ -8,9 +8,9 @@ use Rattle.edmonds_branchings.proofs.Capacity.{left_within}
 use Rattle.edmonds_branchings.proofs.Made.{made}
 use Rattle.edmonds_branchings.proofs.Refused.{refused_taken}
 use Rattle.edmonds_branchings.proofs.Row.{row_taken}
-use Rattle.edmonds_branchings.proofs.Sizes.{size-put}
 use Rattle.edmonds_branchings.proofs.Taken.{ends_left, round_taken}
 use Rattle.edmonds_branchings.proofs.round.make_branching.Goals as goal
+use Rattle.graph_core.proofs.PutLaws.{size-put}
 
 pub loop-init : goal.loop-init
 loop-init c =

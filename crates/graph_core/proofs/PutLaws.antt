@@ -1,18 +1,12 @@
--- Sizes of sides.
+-- A side with one node more, and sides that lack nodes.
 use Rattle.std.specs.Prelude.{ℕ, zero, suc, ◌≡◌, ◌+◌, ◌<◌, Bool, true, false, List, [], ◌∷◌, length, slice_set, refl}
 use Rattle.std.proofs.Common.{ap, ◌∙◌, inl, inr, arith}
-use Rattle.std.proofs.lemmas.Bool.{cases_lt, cases_eq}
-use Rattle.std.proofs.lemmas.List.{get_or_past, get_or-set_same, get_or-set_other}
+use Rattle.std.proofs.lemmas.Bool.{cases_eq}
+use Rattle.std.proofs.lemmas.List.{get_or-set_same, get_or-set_other}
 use Rattle.std.proofs.lemmas.List.Sums.{sum_by-cons, count_by-le-length}
 use Rattle.graph_core.specs.Side.{has, size}
 use Rattle.graph_core.proofs.Counting.{weight}
-
-pub has_within : (X : List Bool) (v : ℕ) → has X v ≡ true → v < length X
-has_within X v h =
-    elim (cases_lt v (length X)) [
-      | inl l ↦ l
-      | inr past ↦ absurd (cc (get_or_past X v false past, h))
-    ]
+use Rattle.graph_core.proofs.SideLaws.{has-below}
 
 size-cons : (x : Bool) (X : List Bool) → size (x ∷ X) ≡ weight x + size X
 size-cons x X = sum_by-cons weight x X
@@ -43,6 +37,6 @@ put_here X v l = get_or-set_same X v true false l
 pub put_kept : (X : List Bool) (v u : ℕ) → has X u ≡ true → has (slice_set X v true) u ≡ true
 put_kept X v u h =
     elim (cases_eq u v) [
-      | inl e ↦ rw e (put_here X v (rw e at (has_within X u h)))
+      | inl e ↦ rw e (put_here X v (rw e at (has-below X u h)))
       | inr ne ↦ get_or-set_other X v u true false ne ∙ h
     ]

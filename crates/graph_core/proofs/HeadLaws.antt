@@ -11,7 +11,7 @@ use Rattle.graph_core.proofs.Counting.{weight, count_weights}
 use Rattle.graph_core.proofs.NodeLaws.{nodes_none}
 use Rattle.graph_core.specs.declared.graph.Line.{Line}
 
-nodes_add : (f g : ℕ → ℕ) (X : List Bool) → sum_over X (λ v. f v + g v) ≡ sum_over X f + sum_over X g
+pub nodes_add : (f g : ℕ → ℕ) (X : List Bool) → sum_over X (λ v. f v + g v) ≡ sum_over X f + sum_over X g
 nodes_add f g [] = refl
 nodes_add f g (true ∷ X) = omega (arith, nodes_add (λ v. f (suc v)) (λ v. g (suc v)) X)
 nodes_add f g (false ∷ X) = omega (arith, nodes_add (λ v. f (suc v)) (λ v. g (suc v)) X)
@@ -31,7 +31,7 @@ node-le-sum f (x ∷ X) (suc v) h = omega (arith, node-le-sum (λ u. f (suc u)) 
 suc_test : (h v : ℕ) → (suc h == suc v) ≡ (h == v)
 suc_test h v = grind (arith, nat_tests)
 
-one_node : (h : ℕ) (X : List Bool) → sum_over X (λ v. weight (h == v)) ≡ weight (has X h)
+pub one_node : (h : ℕ) (X : List Bool) → sum_over X (λ v. weight (h == v)) ≡ weight (has X h)
 one_node h [] = refl
 one_node zero (x ∷ X) =
     let none : sum_over X (λ v. weight (0 == suc v)) ≡ 0 = (λ i. sum_over X (λ v. weight (ne_eqb 0 (suc v) (λ e. absurd (omega arith)) i))) ∙ nodes_none X in
