@@ -6,7 +6,7 @@ use Rattle.std.proofs.lemmas.List.Sums.{sum_by-cons, sum_by-append}
 use Rattle.std.proofs.lemmas.List.Elements.{All-more, All-append}
 use Rattle.std.proofs.lemmas.Bool.{false_from_ne_true}
 use Rattle.graph_core.specs.Side.{has, size, IsOnly}
-use Rattle.graphic_matroid.specs.Counts.{size-none}
+use Rattle.graph_core.proofs.SizeLaws.{size-none}
 use Rattle.graph_core.proofs.Counting.{weight}
 use Rattle.graph_core.proofs.FamilyLaws.{count_by-le}
 use Rattle.certificate_checker.specs.TreeSides.{pair_at, inside, AreUncrossed, AddsOther, IsGrown, IsReach}

@@ -1,22 +1,22 @@
 -- Branchings that begin only at the root are spanning arborescences.
 use Rattle.std.specs.Prelude.{ℕ, zero, suc, ◌≡◌, ◌≢◌, ◌+◌, ◌<◌, ◌≤◌, ◌==◌, ◌&&◌, not, Bool, true, false, cond, List, [], ◌∷◌, length, replicate, slice_set, slice_index, slice_index_or, count_by, All, refl}
-use Rattle.std.proofs.Common.{sym, ap, ◌∙◌, subst, inl, inr, arith}
-use Rattle.std.proofs.lemmas.Bool.{cases_eq, cases_lt, cases_Bool, ne_eqb, eq-eqb, eqb-true}
+use Rattle.std.proofs.Common.{sym, ap, ◌∙◌, inl, inr, arith}
+use Rattle.std.proofs.lemmas.Bool.{cases_eq, cases_Bool, ne_eqb, eq-eqb}
 use Rattle.std.proofs.lemmas.Bool.Decides.{nat_tests}
-use Rattle.std.proofs.lemmas.List.{length-set, length-replicate, get_or-replicate, get_or-set_same, get_or-set_other, get_or_past}
+use Rattle.std.proofs.lemmas.List.{length-set, length-replicate, get_or-replicate, get_or-set_same, get_or-set_other}
 use Rattle.std.proofs.lemmas.List.Sums.{sum_by-cons, sum_by-set, get_or-le-sum_by}
 use Rattle.std.proofs.lemmas.List.Elements.{All-weaker, All-set, All-replicate}
 use Rattle.graph_core.specs.Graph.{Fits}
-use Rattle.graph_core.specs.Side.{has, size, sum_over, IsNonempty}
+use Rattle.graph_core.specs.Side.{has, size, sum_over}
 use Rattle.graph_core.specs.Lines.{within, enters, entering, induced}
 use Rattle.graph_core.specs.Picked.{picked}
 use Rattle.graph_core.specs.Trees.{in_degree, IsBranching, IsSpanningArborescence}
-use Rattle.graph_core.proofs.Counting.{weight, count_weights, sum_by-add, sum_by-ones, sum_by-agree, All-picked, length-all_picked}
+use Rattle.graph_core.proofs.Counting.{weight, count_weights, sum_by-add, sum_by-ones, All-picked, length-all_picked}
 use Rattle.graph_core.proofs.NodeLaws.{nodes_none}
 use Rattle.graph_core.proofs.SideLaws.{contains-has}
 use Rattle.graph_core.specs.declared.graph.Line.{Line}
 use Rattle.edmonds_branchings.specs.LeastSide.{IsLeastSide}
-use Rattle.edmonds_branchings.specs.Rooted.{beginning_at, CanBePacked, ArePacked}
+use Rattle.edmonds_branchings.specs.Rooted.{CanBePacked, ArePacked}
 use Rattle.edmonds_branchings.proofs.Sizes.{has_within}
 
 nodes_add : (f g : ℕ → ℕ) (X : List Bool) → sum_over X (λ v. f v + g v) ≡ sum_over X f + sum_over X g
@@ -111,9 +111,9 @@ module _ {n : ℕ} {ls : List Line} (r : ℕ) (below : r < n) (fits : All (Fits 
   all_but_one =
       let many : length P ≡ length row = length-all_picked ls row b.forest.picks.in_range in
       let whole : induced V P ≡ length P = sum_by-ones (λ l. weight (within V l)) P
-          (All-weaker (Fits n) (λ l. weight (within V l) ≡ 1) (λ l f. rw (has_all l.tail f.tail, has_all l.head f.head) refl) P fit) in
+      (All-weaker (Fits n) (λ l. weight (within V l) ≡ 1) (λ l f. rw (has_all l.tail f.tail, has_all l.head f.head) refl) P fit) in
       let each : count_by (λ l. has W l.head) P + in_degree r P ≡ length P = sym (sum_by-add (λ l. weight (has W l.head)) (λ l. weight (l.head == r)) P)
-          ∙ sum_by-ones (λ l. weight (has W l.head) + weight (l.head == r)) P (All-weaker (Fits n) (λ l. weight (has W l.head) + weight (l.head == r) ≡ 1) (λ l f. has_rest l.head f.head) P fit) in
+      ∙ sum_by-ones (λ l. weight (has W l.head) + weight (l.head == r)) P (All-weaker (Fits n) (λ l. weight (has W l.head) + weight (l.head == r) ≡ 1) (λ l f. has_rest l.head f.head) P fit) in
       let long : length V ≡ n = length-replicate n true in
       let rest : entering W P + induced W P ≡ size W = heads W (length-set V r false ∙ long) (get_or-set_same V r false false (omega arith)) in
       let size_rest : size W + weight (has V r) ≡ size V + 0 = sum_by-set weight V r false false (omega arith) in
@@ -153,15 +153,15 @@ pub can_be_packed : {n k r : ℕ} {ls : List Line} {X : List Bool} → r < n →
 can_be_packed {n} {k} {r} {ls} {X} below least is =
     let zeros : length (replicate n 0) ≡ n = length-replicate n 0 in
     record {
-  long = length-set (replicate n 0) r k ∙ zeros;
-  few = All-set (λ c. c ≤ k) (replicate n 0) r k (omega arith) (All-replicate (λ c. c ≤ k) n 0 (omega arith));
-  entered = λ Y y. elim (cases_Bool (has Y r)) [
-    | inl holds ↦
-        let at : slice_index (root_alone n r k) r ≡ k = get_or-set_same (replicate n 0) r k 0 (omega (arith, zeros)) in
-        omega (arith, node-le-sum (slice_index (root_alone n r k)) Y r holds, at)
-    | inr misses ↦ omega (arith, least.least Y y misses, is)
-  ];
-}
+      long = length-set (replicate n 0) r k ∙ zeros;
+      few = All-set (λ c. c ≤ k) (replicate n 0) r k (omega arith) (All-replicate (λ c. c ≤ k) n 0 (omega arith));
+      entered = λ Y y. elim (cases_Bool (has Y r)) [
+        | inl holds ↦
+            let at : slice_index (root_alone n r k) r ≡ k = get_or-set_same (replicate n 0) r k 0 (omega (arith, zeros)) in
+            omega (arith, node-le-sum (slice_index (root_alone n r k)) Y r holds, at)
+        | inr misses ↦ omega (arith, least.least Y y misses, is)
+      ];
+    }
 
 pub all_spanning : {n k r : ℕ} {ls : List Line} {rows : List (List ℕ)} → r < n → All (Fits n) ls → ArePacked n k ls (root_alone n r k) rows → All (IsSpanningArborescence n ls r) rows
 all_spanning {n} {k} {r} {ls} {rows} below fits are j d l =

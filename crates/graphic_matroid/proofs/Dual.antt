@@ -18,8 +18,8 @@ use Rattle.matroid_union.proofs.Sizes.{length_of, has_of}
 use Rattle.graphic_matroid.specs.Chosen.{chosen}
 use Rattle.graphic_matroid.specs.Labels.{class, splits, unfit, Labels}
 use Rattle.graphic_matroid.specs.Components.{AreComponents}
+use Rattle.graph_core.proofs.SizeLaws.{weight_true, weight_false, weight_most, count-cons, count-le_three}
 use Rattle.graph_core.proofs.SideLaws.{has-below}
-use Rattle.graphic_matroid.specs.Counts.{weight_true, weight_false, weight_most, count-cons, count-le_three}
 use Rattle.graphic_matroid.specs.ChosenLaws.{chosen-le, chosen-all, chosen-set, chosen-some, chosen-find}
 use Rattle.graphic_matroid.specs.LabelLaws.{in_class, to_class, split_is, split_not, forest_more}
 use Rattle.graphic_matroid.specs.ForestLaws.{labels_exist, Labelled, fit_ends}

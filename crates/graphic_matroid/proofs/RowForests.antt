@@ -14,7 +14,7 @@ use Rattle.matroid_union.specs.Sets.{set_of}
 use Rattle.matroid_union.proofs.Sizes.{has_of}
 use Rattle.matroid_union.specs.Union.{names, row, IsUnion}
 use Rattle.graphic_matroid.specs.Chosen.{chosen}
-use Rattle.graphic_matroid.specs.Counts.{weight_true, weight_false}
+use Rattle.graph_core.proofs.SizeLaws.{weight_true, weight_false}
 use Rattle.graphic_matroid.specs.ChosenLaws.{chosen-cons}
 use Rattle.graphic_matroid.specs.ForestLaws.{forest_same}
 

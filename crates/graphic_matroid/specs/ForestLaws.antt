@@ -17,8 +17,8 @@ use Rattle.graphic_matroid.specs.LabelLaws.{in_class, to_class, split_not, split
 use Rattle.graphic_matroid.specs.JoinLaws.{labels_more, joined_at, joined_off}
 use Rattle.graph_core.proofs.Counting.{weight, sum_by-add, sum_by-swap}
 use Rattle.matroid_union.proofs.Sizes.{length_of}
+use Rattle.graph_core.proofs.SizeLaws.{weight_true, weight_false, weight_most, count-cons, count-none, sum-le, sum_one, some_or_none}
 use Rattle.graph_core.proofs.SideLaws.{nonempty-has}
-use Rattle.graphic_matroid.specs.Counts.{weight_true, weight_false, weight_most, count-cons, count-none, sum-le, sum_one, some_or_none}
 
 -- the ends of a line that is fit
 pub fit_ends : (n : ℕ) (l : Line) → unfit n l ≡ false → (l.tail < n) × (l.head < n)

@@ -1,6 +1,7 @@
 -- Classes joined by lines.
 use Rattle.std.proofs.Common.{ℕ, ◌≡◌, ◌≢◌, ◌+◌, ◌<◌, ◌≤◌, Bool, true, false, not, eqb, ◌&&◌, List, length, count_by, sym, refl, ap, ◌∙◌, arith, ⊎_elim, subst}
 use Rattle.std.proofs.lemmas.Bool.{cases_eq, cases_lt, cases_Bool, both_ways, eqb-true, eqb-false, eq-eqb, ne_eqb, and_parts, and_from, not-true, not-false, not_from_true, not_from_false}
+use Rattle.std.proofs.lemmas.List.{get_or_past}
 use Rattle.graph_core.specs.Side.{has, size}
 use Rattle.graph_core.specs.Lines.{within}
 use Rattle.graph_core.specs.Trees.{IsAcyclic}
@@ -9,8 +10,11 @@ use Rattle.matroid_union.specs.Sets.{set_of}
 use Rattle.graphic_matroid.specs.Labels.{class, splits, Labels, Adds}
 use Rattle.graph_core.proofs.Counting.{weight}
 use Rattle.matroid_union.proofs.Sizes.{length_of, has_of}
+use Rattle.graph_core.proofs.SizeLaws.{weight_true, weight_false, weight_most, count-le_three, size-ge_sum}
 use Rattle.graph_core.proofs.SideLaws.{has-below, nonempty-has}
-use Rattle.graphic_matroid.specs.Counts.{weight_true, weight_false, weight_most, count-le_three, size-ge_sum, has_past}
+
+has_past : (n : ℕ) (f : ℕ → Bool) (k : ℕ) → n ≤ k → has (set_of n f) k ≡ false
+has_past n f k l = get_or_past (set_of n f) k false (rw (length_of n f) l)
 
 module _ (n : ℕ) (lab : ℕ → ℕ) where
   -- what is in a class

@@ -14,7 +14,7 @@ use Rattle.graphic_matroid.specs.Chosen.{chosen}
 use Rattle.graphic_matroid.specs.ChosenLaws.{chosen-none}
 use Rattle.graphic_matroid.specs.Components.{AreComponents}
 use Rattle.graph_core.proofs.SideLaws.{has-below, contains-has}
-use Rattle.graphic_matroid.specs.Counts.{size-none}
+use Rattle.graph_core.proofs.SizeLaws.{size-none}
 
 -- a side of one node, of two or more
 pub only-proper : (n v : ℕ) (X : List Bool) → 2 ≤ n → length X ≡ n → IsOnly X v → IsProper n X

@@ -2,7 +2,7 @@ use Rattle.std.proofs.Common.{◌≡◌, ◌<◌, ◌≤◌, [], length, replica
 use Rattle.std.specs.Prelude.{sum_by}
 use Rattle.std.proofs.lemmas.Option.{get_or_from_slice_get}
 use Rattle.graph_core.specs.Side.{size, IsNonempty}
-use Rattle.graphic_matroid.specs.Counts.{size-all}
+use Rattle.graph_core.proofs.SizeLaws.{size-all}
 use Rattle.forest_cover.specs.Dense.{demand}
 use Rattle.forest_cover.proofs.Covering.{covering, rows-within}
 use Rattle.forest_cover.proofs.Denser.{denser, demand_is, demand_some, demand_most, some_class, nodes_two, all-nonempty}
