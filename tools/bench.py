@@ -3,9 +3,9 @@
 
 usage: bench.py [PROGRAM [RUNS [COMMAND..]]]
 
-Each time is the least of RUNS (5), in milliseconds of a processor, from the start of the process to its end. Behind it
-stands how often the time of the next smaller graph of that form goes into it. The yardstick is tools/yardstick.cpp, built
-where a C++ compiler is; its values are compared with the program's.
+Each time is the least of RUNS (5), in milliseconds of a processor, from the start of the process to its end: of the
+answer, of `check` on that answer, and of the yardstick, tools/yardstick.cpp, which is built where a C++ compiler is and
+whose values are compared with the program's. Growth is how often the time of an answer goes into that of the next size.
 """
 
 import random
@@ -105,38 +105,37 @@ def value_of(command, text):
     return next(int(words[1]) for words in lines if words[:1] == ["value"])
 
 
-def grown(times, key, now):
-    """The time, and how often the one before goes into it."""
-    before, times[key] = times.get(key), now
-    return f"{now:.1f}" + (f" (x {now / before:.1f})" if before else "")
-
-
 def is_built(program, words, data):
     text, status, _ = timed([program, *words], data, 1)
     return (text, status) != (b"words 1\n", 3)
 
 
-def rows(program, plain, runs, command, words_for, directed):
-    """The rows of the table for one command and one kind of graph."""
-    for form, make in FORMS:
-        times = {}
-        for n in SIZES:
-            pairs = make(n)
-            if len(pairs) > MOST_LINES:
-                continue
-            data, words = text_of(n, pairs, directed), [command, *words_for(n)]
-            text, status, took = timed([program, *words], data, runs)
-            assert status == 0, (words, text, status)
-            said, accepted, checking = timed([program, "check"], data + text, runs)
-            is_checked = said != b"rejected malformed 2\n"
-            assert not is_checked or (said, accepted) == (b"accepted\n", 0), (words, said)
-            value, beside = value_of(command, text), "-"
-            if plain:
-                other, _, least = timed([plain, *words], data, runs)
-                assert int(other) == value, (words, value, other)
-                beside = grown(times, "plain", least)
-            check = grown(times, "check", checking) if is_checked else "-"
-            yield form, n, len(pairs), value, grown(times, "own", took), check, beside
+def times(program, plain, runs, words, data):
+    """The times of the answer, of its check and of the yardstick; a command that isn't checked has none of a check."""
+    text, status, own = timed([program, *words], data, runs)
+    assert status == 0, (words, text, status)
+    said, accepted, check = timed([program, "check"], data + text, runs)
+    is_checked = said != b"rejected malformed 2\n"
+    assert not is_checked or (said, accepted) == (b"accepted\n", 0), (words, said)
+    if not plain:
+        return own, check if is_checked else None, None
+    value, _, least = timed([plain, *words], data, runs)
+    assert int(value) == value_of(words[0], text), (words, value, text)
+    return own, check if is_checked else None, least
+
+
+def row(program, plain, runs, command, words_for, directed, make):
+    """A row of the table: the times for each size, and how the answer's grow."""
+    cells, own = [], []
+    for n in SIZES:
+        pairs = make(n)
+        if len(pairs) > MOST_LINES:
+            cells.append("")
+            continue
+        found = times(program, plain, runs, [command, *words_for(n)], text_of(n, pairs, directed))
+        cells.append(" / ".join("-" if it is None else f"{it:.1f}" for it in found))
+        own.append(found[0])
+    return [*cells, ", ".join(f"{after / before:.1f}" for before, after in zip(own, own[1:]))]
 
 
 def main(words):
@@ -152,9 +151,9 @@ def main(words):
                     print(f"`{command}` isn't built yet.\n")
                     continue
                 print(f"`{command}`, {'directed' if directed else 'undirected'} graphs:\n")
-                print("| Graph | n | m | Value | Answer | Check | Yardstick |\n|---|---|---|---|---|---|---|")
-                for row in rows(program, plain, runs, command, words_for, directed):
-                    print("|", " | ".join(map(str, row)), "|", flush=True)
+                print("| Graph |", " | ".join(f"n = {n}" for n in SIZES), "| Growth |\n|---|" + "---|" * len(SIZES) + "---|")
+                for form, make in FORMS:
+                    print("|", " | ".join([form, *row(program, plain, runs, command, words_for, directed, make)]), "|", flush=True)
                 print()
 
 

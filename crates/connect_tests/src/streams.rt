@@ -54,10 +54,19 @@ fn bad_words_leave_the_source_unread(rt: HostRuntime) -> Result<(), Fail> {
 const PLAN: [bool; 5] = [false, false, false, false, true];
 
 // Words and input, of each command and of each kind of answer.
-const RUNS: [(&str, &[u8]); 7] = [
+const RUNS: [(&str, &[u8]); 10] = [
     ("flow a b", INPUT),
     ("flow a a", INPUT),
     ("cuttree", INPUT),
+    ("forests", INPUT),
+    (
+        "trees",
+        b"graph undirected\nnode a\nnode b\nedge a b\nend\n",
+    ),
+    (
+        "arborescences a",
+        b"graph directed\nnode a\nnode b\narc a b\nend\n",
+    ),
     (
         "flow a b",
         b"graph directed\nnode a\nnode b\narc a b\narc a b\nend\n",
