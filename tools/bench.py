@@ -150,7 +150,7 @@ def main(words):
                 if not is_built(program, [command, *words_for(2)], text_of(2, [(1, 2)], directed)):
                     print(f"`{command}` isn't built yet.\n")
                     continue
-                print(f"`{command}`, {'directed' if directed else 'undirected'} graphs:\n")
+                print(f"## `{command}`, {'directed' if directed else 'undirected'} graphs\n")
                 print("| Graph |", " | ".join(f"n = {n}" for n in SIZES), "| Growth |\n|---|" + "---|" * len(SIZES) + "---|")
                 for form, make in FORMS:
                     print("|", " | ".join([form, *row(program, plain, runs, command, words_for, directed, make)]), "|", flush=True)

@@ -22,7 +22,7 @@ from pathlib import Path
 ROOT = Path(__file__).resolve().parent.parent
 PLANTS = ROOT / "tools/plants"
 SUITES = ["connect_tests"]
-NAMES_ONLY = re.compile(r"has no `|has no field|is not in scope|was not admitted")
+NAMES_ONLY = re.compile(r"has no `|has no field|is not in scope|was not admitted|is a name of Rattle's own")
 
 
 class Plant:
