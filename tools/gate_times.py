@@ -34,7 +34,7 @@ def working(parent):
         if b"--crate-name" not in words:
             continue
         crate = words[words.index(b"--crate-name") + 1].decode()
-        step = "edits" if "rt-edit" in place else "tests" if words[1] == b"build" else "proof"
+        step = "edits" if "/rt-edit" in place else "tests" if b"--test" in words else "proof"
         yield entry.name, crate, step, (int(stat[11]) + int(stat[12])) / TICKS
 
 
