@@ -9,6 +9,7 @@ Processor seconds are read off /proc once a second, so a step shorter than that 
 import os
 import subprocess
 import sys
+import threading
 import time
 from collections import defaultdict
 from pathlib import Path
@@ -37,21 +38,26 @@ def working(parent):
         yield entry.name, crate, step, (int(stat[11]) + int(stat[12])) / TICKS
 
 
+def listen(gate, began, said):
+    """Keeps what the gate says, and prints the lines that tell how far it is, with the seconds since it began."""
+    for line in gate.stdout:
+        said.append(line.rstrip("\n"))
+        if line.startswith("rt:") or "refused" in line or "passed," in line or "error" in line:
+            print(f"{time.time() - began:6.0f} s  {said[-1]}", flush=True)
+
+
 def main():
     began = time.time()
     gate = subprocess.Popen(["rt", "ci", *sys.argv[1:]], stdout=subprocess.PIPE, stderr=subprocess.STDOUT, text=True)
-    os.set_blocking(gate.stdout.fileno(), False)
-    spent, last = {}, ""
+    said = []
+    reader = threading.Thread(target=listen, args=(gate, began, said))
+    reader.start()
+    spent = {}
     while gate.poll() is None:
         for process, crate, step, seconds in working(gate.pid):
             spent[process, crate, step] = max(seconds, spent.get((process, crate, step), 0.0))
-        for line in (gate.stdout.read() or "").splitlines():
-            last = line
-            if line.startswith("rt:") or "passed," in line:
-                print(f"{time.time() - began:6.0f} s  {line}", flush=True)
         time.sleep(1)
-    for line in (gate.stdout.read() or "").splitlines():
-        last = line
+    reader.join()
     total = defaultdict(lambda: dict.fromkeys(STEPS, 0.0))
     for (_, crate, step), seconds in spent.items():
         total[crate][step] += seconds
@@ -60,7 +66,7 @@ def main():
         print("|", " | ".join([f"`{crate}`", *(f"{row[step]:.0f}" for step in STEPS)]), "|")
     sums = {step: sum(row[step] for row in total.values()) for step in STEPS}
     print("|", " | ".join(["all", *(f"{sums[step]:.0f}" for step in STEPS)]), "|")
-    print(f"{(time.time() - began) / 60:.1f} minutes; {last}")
+    print(f"{(time.time() - began) / 60:.1f} minutes; {said[-1]}")
     return gate.returncode
 
 

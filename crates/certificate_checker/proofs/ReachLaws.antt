@@ -1,20 +1,16 @@
 -- How a side grows by pairs that cross it.
-use Rattle.std.proofs.Common.{◌≡◌, ℕ, zero, suc, ◌+◌, ◌<◌, ◌≤◌, Bool, true, false, ◌&&◌, List, [], ◌∷◌, ◌++◌, length, refl, sym, ap, ◌∙◌, replicate, take, subst, arith, length-set}
+use Rattle.std.proofs.Common.{◌≡◌, ℕ, zero, suc, ◌+◌, ◌<◌, ◌≤◌, Bool, true, false, ◌&&◌, List, [], ◌∷◌, ◌++◌, length, refl, sym, ap, ◌∙◌, take, subst, arith, length-set}
 use Rattle.std.specs.Prelude.{slice_set, ◌||◌, remove}
 use Rattle.std.specs.Bool.{OnTrue, OnFalse}
 use Rattle.std.proofs.lemmas.List.Sums.{sum_by-cons, sum_by-append}
 use Rattle.std.proofs.lemmas.List.Elements.{All-more, All-append}
 use Rattle.std.proofs.lemmas.Bool.{false_from_ne_true}
 use Rattle.graph_core.specs.Side.{has, size, IsOnly}
-use Rattle.graphic_matroid.specs.Counts.{size-none}
+use Rattle.graph_core.proofs.SizeLaws.{size-none}
 use Rattle.graph_core.proofs.Counting.{weight}
 use Rattle.graph_core.proofs.FamilyLaws.{count_by-le}
 use Rattle.certificate_checker.specs.TreeSides.{pair_at, inside, AreUncrossed, AddsOther, IsGrown, IsReach}
-
-pub size-put : (X : List Bool) (v : ℕ) → v < length X → has X v ≡ false → size (slice_set X v true) ≡ size X + 1
-size-put [] v l h = absurd (omega arith)
-size-put (x ∷ X) zero l h = omega (arith, sum_by-cons weight true X, sum_by-cons weight x X, ap weight h)
-size-put (x ∷ X) (suc v) l h = omega (arith, sum_by-cons weight x (slice_set X v true), sum_by-cons weight x X, size-put X v (omega arith) h)
+use Rattle.graph_core.proofs.PutLaws.{size-put}
 
 pub has-put : (X : List Bool) (v : ℕ) → v < length X → has (slice_set X v true) v ≡ true
 has-put [] v l = absurd (omega arith)

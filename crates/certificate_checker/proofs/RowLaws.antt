@@ -1,33 +1,17 @@
 -- The lines that a row marks are those that it picks.
-use Rattle.std.proofs.Common.{ℕ, suc, ◌≡◌, ◌+◌, ◌<◌, ◌≤◌, Bool, true, false, cond, List, [], ◌∷◌, length, refl, sym, ◌∙◌, ◌↔◌, IsTrue, replicate, arith}
+use Rattle.std.proofs.Common.{ℕ, ◌≡◌, ◌+◌, ◌<◌, ◌≤◌, Bool, false, List, length, sym, ◌∙◌, ◌↔◌, IsTrue, replicate, arith}
 use Rattle.std.specs.Prelude.{count_by, All}
 use Rattle.graph_core.specs.Graph.{GraphValue}
 use Rattle.graph_core.specs.Picked.{occurrences, picked}
 use Rattle.graph_core.specs.Trees.{IsAcyclic, IsForest}
 use Rattle.graph_core.specs.declared.graph.Line.{Line}
-use Rattle.graph_core.proofs.Counting.{weight, weighed, count_by-picked, count_by-picks}
+use Rattle.graph_core.proofs.Counting.{weighed, count_by-picked, count_by-picks}
 use Rattle.graphic_matroid.specs.Chosen.{chosen}
-use Rattle.graphic_matroid.specs.ChosenLaws.{chosen-cons}
 use Rattle.graphic_matroid.specs.ForestLaws.{forest_same}
+use Rattle.graphic_matroid.proofs.RowForests.{chosen-weighed}
 use Rattle.certificate_checker.specs.Marks.{mark}
 use Rattle.certificate_checker.specs.MatroidOf.{IsMatroidOf}
 use Rattle.certificate_checker.proofs.MarkLaws.{mark-le, unmarked}
-
-either-first : (b q : Bool) → cond b (weight q) 0 ≡ cond {A = ℕ} q (cond b 1 0) 0
-either-first true true = refl
-either-first true false = refl
-either-first false true = refl
-either-first false false = refl
-
-chosen-weighed : (p : Line → Bool) (A : List Bool) (ls : List Line) → count_by p (chosen A ls) ≡ weighed p ls (mark A)
-chosen-weighed p [] [] = refl
-chosen-weighed p [] (l ∷ ls) =
-    let rest : 0 ≡ weighed p ls (λ _. 0) = chosen-weighed p [] ls in
-    elim (p l) as (λ b. 0 ≡ cond b 0 0 + weighed p ls (λ _. 0)) [ true ↦ omega (arith, rest) | false ↦ omega (arith, rest) ]
-chosen-weighed p (b ∷ A) [] = refl
-chosen-weighed p (b ∷ A) (l ∷ ls) =
-    let rest : count_by p (chosen A ls) ≡ weighed p ls (λ j. mark (b ∷ A) (suc j)) = chosen-weighed p A ls in
-    chosen-cons p b A l ls ∙ (λ t. either-first b (p l) t + rest t)
 
 module _ (n : ℕ) (ls : List Line) (row : List ℕ) (A : List Bool) (marked : (j : ℕ) → mark A j ≡ occurrences j row) where
   picked-chosen : (p : Line → Bool) → count_by p (picked ls row) ≡ count_by p (chosen A ls)

@@ -1,7 +1,7 @@
 -- When pairs are a spanning tree, and what the side of a pair of a tree is.
-use Rattle.std.specs.Prelude.{ℕ, zero, suc, ◌≡◌, ◌+◌, ◌<◌, ◌≤◌, Bool, true, false, not, ◌&&◌, List, [], ◌∷◌, length, map, remove, slice_index_or, sum_by, count_by, Contains, All, refl}
+use Rattle.std.specs.Prelude.{ℕ, zero, suc, ◌≡◌, ◌+◌, ◌<◌, Bool, true, false, not, ◌&&◌, List, [], ◌∷◌, length, map, remove, slice_index_or, sum_by, count_by, All, refl}
 use Rattle.std.proofs.Common.{sym, ap, ◌∙◌, arith, inl, inr, subst}
-use Rattle.std.proofs.lemmas.Bool.{cases_Bool, cases_eq, and_parts, false_from_ne_true}
+use Rattle.std.proofs.lemmas.Bool.{cases_Bool, cases_eq, false_from_ne_true}
 use Rattle.std.proofs.lemmas.List.{length-map, ext_get_or}
 use Rattle.std.proofs.lemmas.List.Elements.{All-nil, All-cons, All-head, All-tail, All-map, All-from_get_or}
 use Rattle.std.proofs.lemmas.List.Sums.{sum_by-cons}
@@ -12,7 +12,7 @@ use Rattle.graph_core.specs.Graph.{GraphValue, Fits, line_of}
 use Rattle.graph_core.proofs.SideLaws.{has-zip2, has-complement, contains-has}
 use Rattle.graph_core.proofs.SplitLaws as split
 use Rattle.graph_core.specs.declared.graph.Line.{Line}
-use Rattle.graph_core.proofs.Counting.{weight, sum_by-add, sum_by-agree, All-both}
+use Rattle.graph_core.proofs.Counting.{weight, All-both}
 use Rattle.graph_core.proofs.FamilyLaws.{size-nonempty, count_by-map}
 use Rattle.problem_defs.specs.CutTree.{tree_lines, IsSpanningTree, IsLeastCut}
 use Rattle.certificate_checker.specs.TreeSides.{pair_at, inside, AreUncrossed, IsReach, NoneIsLess}

@@ -1,4 +1,4 @@
-ghost use Rattle.std.specs.Prelude.{◌≡◌, ℕ, ◌<◌, ◌≤◌, ◌↔◌, All, length, IsTrue, IfOk};
+ghost use Rattle.std.specs.Prelude.{◌≡◌, ◌<◌, ◌↔◌, All, length, IsTrue, IfOk};
 ghost use Rattle.graph_core.specs.Picked.{picked};
 ghost use Rattle.graph_core.specs.Trees.{in_degree};
 ghost use Rattle.problem_defs.specs.Shaped.{AreRows};

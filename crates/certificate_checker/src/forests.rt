@@ -1,5 +1,4 @@
-ghost use Rattle.std.specs.Prelude.{◌≡◌, ℕ, ◌<◌, ◌≤◌, ◌-◌, ◌↔◌, length, IsTrue, IfOk};
-ghost use Rattle.graph_core.specs.Side.{size};
+ghost use Rattle.std.specs.Prelude.{◌≡◌, ◌↔◌, length, IsTrue, IfOk};
 ghost use Rattle.problem_defs.specs.Shaped.{AreRows};
 ghost use Rattle.problem_defs.specs.Forests.{IsFeasible, IsDual, bound};
 ghost use Rattle.problem_defs.specs.declared.cert.ForestDual.TheVariants.{Nothing, Induced};
@@ -22,7 +21,7 @@ fn are_cover(alloc: Global, graph: &Graph, rows: &NumberRows) -> Result<bool, No
     are_forests(alloc, graph, rows)
 }
 
-/// Judges forests that have each edge, where nothing shows that no fewer do: only none of them is best.
+/// Judges forests that cover the edges, with no dual. The bound is then 0.
 pub fn judge_no_forests(
     alloc: Global,
     graph: &Graph,
@@ -52,7 +51,8 @@ fn is_dual(graph: &Graph, side: &Side) -> bool
     side.len() == graph.node_count() && side.count() >= 2
 }
 
-/// Whether the value is the number of the forests, and of those that the edges inside the side want.
+/// Whether the value is the number of the forests, and the bound of the side: how many forests the edges
+/// inside it need, since each has fewer of them than the side has nodes.
 fn is_value(graph: &Graph, value: u64, rows: &NumberRows, side: &Side) -> bool
     requires { IsDual graph.now (Induced side.now) }
     ensures { IsTrue result ↔ ((value ≡ length rows.now) × (length rows.now ≡ bound graph.now (Induced side.now))) }
@@ -61,7 +61,7 @@ fn is_value(graph: &Graph, value: u64, rows: &NumberRows, side: &Side) -> bool
     value == count && count == graph.induced(side).div_ceil(side.count() as u64 - 1)
 }
 
-/// Judges forests that have each edge, and a side with many edges inside.
+/// Judges forests that cover the edges, and a side with many edges inside.
 pub fn judge_forests(
     alloc: Global,
     graph: &Graph,

@@ -1,4 +1,4 @@
-ghost use Rattle.std.specs.Prelude.{◌≡◌, ℕ, ◌<◌, ◌↔◌, All, length, IsTrue, IfOk};
+ghost use Rattle.std.specs.Prelude.{◌≡◌, ◌<◌, ◌↔◌, All, length, IsTrue, IfOk};
 ghost use Rattle.graph_core.specs.Trees.{IsForest};
 ghost use Rattle.problem_defs.specs.Shaped.{AreRows};
 ghost use Rattle.certificate_checker.specs.MatroidOf.{IsMatroidOf};

@@ -1,4 +1,4 @@
-ghost use Rattle.std.specs.Prelude.{◌≡◌, ℕ, ◌<◌, ◌≤◌, ◌↔◌, All, length, IsTrue, IfOk};
+ghost use Rattle.std.specs.Prelude.{◌≡◌, ◌<◌, ◌≤◌, ◌↔◌, All, length, IsTrue, IfOk};
 ghost use Rattle.graph_core.specs.Families.{members_with, IsPartition};
 ghost use Rattle.graph_core.specs.Side.{size};
 ghost use Rattle.problem_defs.specs.Shaped.{AreRows, AreSides};

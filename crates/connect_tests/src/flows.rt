@@ -37,10 +37,8 @@ fn side_of(alloc: Global, n: usize, nodes: &[u32]) -> Result<Side, NoMemory>
     ensures { IfOk result (λ side. length side ≡ n) }
 {
     let mut side = Side::empty(alloc, n)?;
-    for v in nodes {
-        if (*v as usize) < n {
-            side.put(*v, true);
-        }
+    for v in 0..n as u32 {
+        side.put(v, nodes.contains(&v));
     }
     Ok(side)
 }

@@ -1,5 +1,5 @@
 -- The begin of a round.
-use Rattle.std.specs.Prelude.{ℕ, zero, suc, ◌≡◌, ◌≢◌, ◌+◌, ◌<◌, ◌≤◌, Bool, true, false, List, [], length, replicate, slice_set, refl}
+use Rattle.std.specs.Prelude.{ℕ, zero, suc, ◌≡◌, ◌≢◌, ◌+◌, ◌<◌, Bool, true, false, List, [], length, replicate, slice_set, refl}
 use Rattle.std.proofs.Common.{sym, ap, ◌∙◌, subst, arith}
 use Rattle.std.proofs.lemmas.List.{length-set, length-replicate, get_or-set_other}
 use Rattle.std.proofs.lemmas.List.Elements.{All-nil}
@@ -12,8 +12,8 @@ use Rattle.flow_cuts.specs.declared.network.Cap.{Cap}
 use Rattle.edmonds_branchings.specs.Network.{IsLeft}
 use Rattle.edmonds_branchings.specs.Round.{HasCapacity, IsRound, AreRefused}
 use Rattle.edmonds_branchings.specs.Row.{IsRow}
-use Rattle.edmonds_branchings.proofs.Sizes.{put_here, size-put}
 use Rattle.edmonds_branchings.proofs.Row.{IsInner}
+use Rattle.graph_core.proofs.PutLaws.{put_here, size-put}
 
 none_of : (m v : ℕ) → has (replicate m false) v ≡ false
 none_of zero v = refl

@@ -1,5 +1,5 @@
 -- A least side is found node by node.
-use Rattle.std.specs.Prelude.{ℕ, zero, suc, ◌≡◌, ◌≢◌, ◌+◌, ◌<◌, ◌≤◌, not, Bool, true, false, List, length, map, get_or, All, refl}
+use Rattle.std.specs.Prelude.{ℕ, ◌≡◌, ◌≢◌, ◌+◌, ◌<◌, ◌≤◌, not, Bool, true, false, List, length, map, get_or, All}
 use Rattle.std.proofs.Common.{sym, ap, ◌∙◌, subst, inl, inr, arith}
 use Rattle.std.proofs.lemmas.Bool.{cases_eq, cases_lt, false_from_ne_true}
 use Rattle.std.proofs.lemmas.List.{length-map, get_or_default}
@@ -9,11 +9,9 @@ use Rattle.graph_core.specs.Side.{has, complement, IsOnly, IsNonempty}
 use Rattle.graph_core.specs.Lines.{entering}
 use Rattle.graph_core.proofs.SideLaws.{contains-has, has-complement}
 use Rattle.graph_core.specs.declared.graph.Line.{Line}
-use Rattle.flow_cuts.specs.Network.{capacity, Separates}
 use Rattle.flow_cuts.specs.Cuts.{IsLeastCapacity, IsLeastCut}
 use Rattle.edmonds_branchings.specs.LeastSide.{IsLeastSide}
 use Rattle.edmonds_branchings.specs.Network.{turned}
-use Rattle.edmonds_branchings.proofs.Sizes.{has_within}
 use Rattle.edmonds_branchings.proofs.Start.{capacity-turned}
 
 -- a nonempty side without r, entered by no more arcs than one that holds a node below v
@@ -52,16 +50,20 @@ module _ {n v r value : ℕ} {ls : List Line} {X : List Bool} (b : IsLeastBelow 
       → (value ≤ answer → Z ≡ X) → (answer < value → IsLeastCut n I O (map turned ls) answer Z) → IsLeastBelow n (v + 1) ls r answer Z
   least_next {answer} {I} {O} {Z} inside outside least kept cut =
       let below : (Y : List Bool) → length Y ≡ n → has Y r ≡ false → (u : ℕ) → u < v + 1 → has Y u ≡ true → answer ≤ entering Y ls = λ Y y out u l h.
-          elim (cases_lt u v) [
-            | inl lt ↦ omega (arith, least.stopped, b.least Y y out u lt h)
-            | inr ge ↦
-                let same : v ≡ u = omega arith in
-                omega (arith, capacity-turned Y ls, least.least Y (record {
-                  long = y;
-                  holds = λ w i. ap (has Y) (inside.only w i ∙ same) ∙ h;
-                  misses = λ w o. ap (has Y) (outside.only w o) ∙ out;
-                }))
-          ] in
+      elim (cases_lt u v) [
+        | inl lt ↦ omega (arith, least.stopped, b.least Y y out u lt h)
+        | inr ge ↦
+            let same : v ≡ u = omega arith in
+            omega (
+              arith,
+              capacity-turned Y ls,
+              least.least Y (record {
+                long = y;
+                holds = λ w i. ap (has Y) (inside.only w i ∙ same) ∙ h;
+                misses = λ w o. ap (has Y) (outside.only w o) ∙ out;
+              }),
+            )
+      ] in
       elim (cases_lt answer value) [
         | inl lt ↦
             let c = cut lt in

@@ -5,9 +5,9 @@ pub mod LeastSide
 pub mod Lovasz
 pub mod Made
 pub mod MayTake
+pub mod OneRoot
 pub mod Packed
 pub mod Refused
 pub mod Row
-pub mod Sizes
 pub mod Start
 pub mod Taken

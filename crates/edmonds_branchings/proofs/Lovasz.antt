@@ -1,12 +1,12 @@
 -- Lovász's proof that a round never stops before all nodes are covered.
 use Rattle.std.specs.Prelude.{ℕ, zero, suc, ◌≡◌, ◌+◌, ◌<◌, ◌≤◌, Bool, true, false, not, ◌&&◌, ◌||◌, List, length, All, refl}
-use Rattle.std.proofs.Common.{sym, ap, ◌∙◌, inl, inr, arith}
-use Rattle.std.proofs.lemmas.Bool.{and_parts, and_from, or_left}
+use Rattle.std.proofs.Common.{sym, ◌∙◌, arith}
+use Rattle.std.proofs.lemmas.Bool.{and_parts, and_from}
 use Rattle.std.proofs.lemmas.Simd.{length-zip2}
-use Rattle.std.proofs.lemmas.List.Elements.{All-from_get_or, All-get_or}
+use Rattle.std.proofs.lemmas.List.Elements.{All-from_get_or}
 use Rattle.std.proofs.lemmas.List.{length-map}
 use Rattle.graph_core.specs.Side.{has, size, meet, join, minus, complement}
-use Rattle.graph_core.proofs.SideLaws.{has-zip2, has-minus, has-complement}
+use Rattle.graph_core.proofs.SideLaws.{has-zip2, has-minus, has-complement, has-below}
 use Rattle.graph_core.proofs.Counting.{sum_by-le_each, sum_by-zero}
 use Rattle.graph_core.proofs.SplitLaws.{size-split, size-has}
 use Rattle.flow_cuts.specs.declared.network.Cap.{Cap}
@@ -14,7 +14,6 @@ use Rattle.flow_cuts.specs.Network.{across, leaving, capacity}
 use Rattle.edmonds_branchings.specs.Network.{no_arc, cap_at, AreEnds}
 use Rattle.edmonds_branchings.specs.Round.{IsRootless, AreApart, IsRound, IsBlocked, IsEligible}
 use Rattle.edmonds_branchings.proofs.Capacity.{capacity_meets}
-use Rattle.edmonds_branchings.proofs.Sizes.{has_within}
 
 -- an arc that leaves X - T leaves X, or leads from X - T to the part of X in T
 across_part : (a b c d : Bool) (r : ℕ) → (a ≡ true → b ≡ true → c ≡ false → d ≡ true → 0 < r → ⊥) → across (a && not c) (b && not d) r ≤ across a b r
@@ -77,13 +76,13 @@ module _ {n k : ℕ} (arcs : List Cap) (T : List Bool) (round : IsRound n k arcs
       let apart : AreApart (minus X T) T = λ v h. not_in T v (and_parts (has X v) (not (has T v)) (sym (has-minus X T v same) ∙ h)).1 in
       let more : k ≤ capacity (minus X T) arcs = round.apart (minus X T) rest apart in
       let each : All (λ a. leaving (minus X T) a ≤ leaving X a) arcs = All-from_get_or (λ a. leaving (minus X T) a ≤ leaving X a) arcs no_arc
-          (λ j l.
-          let a = cap_at arcs j in
-          rw (has-minus X T a.tail same, has-minus X T a.head same)
-          (across_part (has X a.tail) (has X a.head) (has T a.tail) (has T a.head) a.cap
-          (λ tail_x head_x tail_t head_t left.
-          let (Z, z, less, fewer, in_z) = smaller X x critical j tail_x head_x (stuck j (record { left = left; head = head_t; tail = tail_t })) in
-          none_outside s Z (omega arith) z less a.tail in_z tail_t))) in
+      (λ j l.
+      let a = cap_at arcs j in
+      rw (has-minus X T a.tail same, has-minus X T a.head same)
+      (across_part (has X a.tail) (has X a.head) (has T a.tail) (has T a.head) a.cap
+      (λ tail_x head_x tail_t head_t left.
+      let (Z, z, less, fewer, in_z) = smaller X x critical j tail_x head_x (stuck j (record { left = left; head = head_t; tail = tail_t })) in
+      none_outside s Z (omega arith) z less a.tail in_z tail_t))) in
       omega (arith, sum_by-le_each (leaving (minus X T)) (leaving X) arcs each)
 
   -- so while a node isn't covered an arc may be taken
@@ -97,15 +96,15 @@ module _ {n k : ℕ} (arcs : List Cap) (T : List Bool) (round : IsRound n k arcs
         last_out = rw (inside n (omega arith), round.last) refl;
       } in
       let apart : AreApart V T = λ v h.
-          let l : v < n + 1 = omega (arith, has_within V v h, rest.long) in
-          not_in T v (sym (inside v l) ∙ h) in
+      let l : v < n + 1 = omega (arith, has-below V v h, rest.long) in
+      not_in T v (sym (inside v l) ∙ h) in
       let none : All (λ a. leaving V a ≤ 0) arcs = All-from_get_or (λ a. leaving V a ≤ 0) arcs no_arc
-          (λ j l.
-              let a = cap_at arcs j in
-              let e : (a.tail < n) × (a.head ≤ n) = ends j no_arc l in
-              rw (inside a.tail (omega (arith, e.0)), inside a.head (omega (arith, e.1)))
-              (across_rest (has T a.tail) (has T a.head) a.cap
-              (λ tail head left.
-                  let y = stuck j (record { left = left; head = head; tail = tail }) in
-                  none_outside (size y.side) y.side (omega arith) y.rootless y.critical a.tail y.tail tail))) in
+      (λ j l.
+      let a = cap_at arcs j in
+      let e : (a.tail < n) × (a.head ≤ n) = ends j no_arc l in
+      rw (inside a.tail (omega (arith, e.0)), inside a.head (omega (arith, e.1)))
+      (across_rest (has T a.tail) (has T a.head) a.cap
+      (λ tail head left.
+      let y = stuck j (record { left = left; head = head; tail = tail }) in
+      none_outside (size y.side) y.side (omega arith) y.rootless y.critical a.tail y.tail tail))) in
       omega (arith, sum_by-le_each (leaving V) (λ _. 0) arcs none, sum_by-zero arcs, round.apart V rest apart)

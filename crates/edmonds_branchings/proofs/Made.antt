@@ -1,18 +1,18 @@
 -- The end of a round: all nodes are covered.
-use Rattle.std.specs.Prelude.{ℕ, zero, suc, ◌≡◌, ◌+◌, ◌-◌, ◌<◌, ◌≤◌, ◌==◌, Bool, true, List, length, All, refl}
+use Rattle.std.specs.Prelude.{ℕ, zero, suc, ◌≡◌, ◌+◌, ◌-◌, ◌<◌, ◌≤◌, ◌==◌, Bool, true, List, length, All}
 use Rattle.std.proofs.Common.{sym, ap, ◌∙◌, inl, inr, arith}
 use Rattle.std.proofs.lemmas.Bool.{cases_lt, ne_eqb}
 use Rattle.std.proofs.lemmas.List.Elements.{All-weaker}
 use Rattle.graph_core.specs.Side.{has, size}
 use Rattle.graph_core.specs.Picked.{picked, occurrences, IsDistinct}
-use Rattle.graph_core.specs.Trees.{in_degree, IsBranching}
+use Rattle.graph_core.specs.Trees.{in_degree}
 use Rattle.graph_core.proofs.Counting.{weight, sum_by-agree, sum_by-zero}
 use Rattle.graph_core.specs.declared.graph.Line.{Line}
 use Rattle.flow_cuts.specs.declared.network.Cap.{Cap}
 use Rattle.edmonds_branchings.specs.Network.{cap_at}
 use Rattle.edmonds_branchings.specs.Round.{IsRound}
 use Rattle.edmonds_branchings.specs.Row.{IsRow, IsMade}
-use Rattle.edmonds_branchings.proofs.Sizes.{all_there}
+use Rattle.graph_core.proofs.PutLaws.{all_there}
 
 -- numbers below m are no larger number
 pub none_past : (m j : ℕ) (row : List ℕ) → All (λ i. i < m) row → m ≤ j → occurrences j row ≡ 0

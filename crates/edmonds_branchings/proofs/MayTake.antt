@@ -5,12 +5,11 @@ use Rattle.std.proofs.lemmas.Bool.{cases_eq}
 use Rattle.std.proofs.lemmas.List.{get_or-set_same, get_or-set_other}
 use Rattle.graph_core.specs.Side.{has, IsOnly}
 use Rattle.flow_cuts.specs.declared.network.Cap.{Cap}
-use Rattle.flow_cuts.specs.Network.{leaving, capacity, Separates}
+use Rattle.flow_cuts.specs.Network.{leaving}
 use Rattle.flow_cuts.specs.Cuts.{IsLeastCapacity}
-use Rattle.edmonds_branchings.specs.Network.{no_arc, cap_at}
-use Rattle.edmonds_branchings.specs.Round.{IsRootless, IsFree, IsBlocked}
+use Rattle.edmonds_branchings.specs.Network.{cap_at}
+use Rattle.edmonds_branchings.specs.Round.{IsFree, IsBlocked}
 use Rattle.edmonds_branchings.proofs.Capacity.{leaving-le-capacity}
-use Rattle.edmonds_branchings.proofs.Sizes.{has_within}
 
 -- an arc that is left k times may be taken
 pub free_enough : (n k : ℕ) (arcs : List Cap) (j : ℕ) → j < length arcs → k ≤ (cap_at arcs j).cap → IsFree n k arcs j

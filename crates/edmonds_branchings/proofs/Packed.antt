@@ -1,9 +1,8 @@
 -- The branchings that are made, one by one.
-use Rattle.std.specs.Prelude.{ℕ, ◌≡◌, ◌+◌, ◌-◌, ◌<◌, ◌≤◌, ◌==◌, List, [], ◌∷◌, ◌++◌, length, slice_index, All, refl}
+use Rattle.std.specs.Prelude.{ℕ, ◌≡◌, ◌+◌, ◌-◌, ◌<◌, ◌≤◌, ◌==◌, List, [], ◌∷◌, ◌++◌, length, slice_index, All}
 use Rattle.std.specs.List.{concat}
-use Rattle.std.proofs.Common.{sym, ap, ◌∙◌, inl, inr, arith}
+use Rattle.std.proofs.Common.{ap, ◌∙◌, inl, inr, arith}
 use Rattle.std.proofs.lemmas.Bool.{cases_lt}
-use Rattle.std.proofs.lemmas.List.{length_push}
 use Rattle.std.proofs.lemmas.List.Sums.{sum_by_push}
 use Rattle.std.proofs.lemmas.List.Elements.{All-nil, All-push, All-weaker}
 use Rattle.graph_core.specs.Picked.{picked, occurrences, IsDistinct}
@@ -54,10 +53,10 @@ packed {n} {k} {rest} {ls} {roots} {arcs} {rows} p many =
       | inl l ↦ omega (arith, p.once j l)
       | inr past ↦
           let none : occurrences j (concat rows) ≡ 0 =
-              sum_by-concat (λ i. weight (i == j)) rows
-              ∙ sum_by-agree (λ r. occurrences j r) (λ _. 0) rows
-              (All-weaker (IsBranching n ls) (λ r. occurrences j r ≡ 0) (λ r b. none_past (length ls) j r b.forest.picks.in_range past) rows p.each)
-              ∙ sum_by-zero rows in
+          sum_by-concat (λ i. weight (i == j)) rows
+          ∙ sum_by-agree (λ r. occurrences j r) (λ _. 0) rows
+          (All-weaker (IsBranching n ls) (λ r. occurrences j r ≡ 0) (λ r b. none_past (length ls) j r b.forest.picks.in_range past) rows p.each)
+          ∙ sum_by-zero rows in
           omega (arith, none)
     ] in
     record {

@@ -1,5 +1,5 @@
 -- Refused arcs stay refused.
-use Rattle.std.specs.Prelude.{ℕ, ◌≡◌, ◌+◌, ◌<◌, ◌≤◌, Bool, true, false, List, length, slice_set, refl}
+use Rattle.std.specs.Prelude.{ℕ, ◌<◌, Bool, true, false, List, slice_set}
 use Rattle.std.proofs.Common.{sym, ap, ◌∙◌, subst, inl, inr, arith}
 use Rattle.std.proofs.lemmas.Bool.{cases_eq}
 use Rattle.std.proofs.lemmas.List.{get_or-set_other}

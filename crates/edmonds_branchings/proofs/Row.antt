@@ -1,26 +1,24 @@
 -- The branching grows by an arc to a node that isn't covered.
-use Rattle.std.specs.Prelude.{ℕ, ◌≡◌, ◌≢◌, ◌+◌, ◌-◌, ◌<◌, ◌≤◌, ◌==◌, ◌&&◌, Bool, true, false, List, [], ◌∷◌, ◌++◌, length, slice_get, slice_set, Some, All, refl}
+use Rattle.std.specs.Prelude.{ℕ, ◌≡◌, ◌≢◌, ◌+◌, ◌-◌, ◌<◌, ◌≤◌, ◌==◌, Bool, true, false, List, [], ◌∷◌, ◌++◌, length, slice_get, slice_set, Some, All, refl}
 use Rattle.std.proofs.Common.{sym, ap, ◌∙◌, subst, inl, inr, arith}
-use Rattle.std.proofs.lemmas.Bool.{cases_eq, cases_lt, cases_Bool, and_parts, eq-eqb, ne_eqb, eqb-true, eqb-false, lt-ltb, le-ltb, cond-true, cond-false}
-use Rattle.std.proofs.lemmas.Bool.Decides.{nat_tests}
-use Rattle.std.proofs.lemmas.List.{length-set, get_or-set_same, get_or-set_other}
+use Rattle.std.proofs.lemmas.Bool.{cases_eq, cases_lt, cases_Bool, and_parts, eq-eqb, ne_eqb, lt-ltb, le-ltb, cond-true, cond-false}
+use Rattle.std.proofs.lemmas.List.{length-set, get_or-set_other}
 use Rattle.std.proofs.lemmas.List.Sums.{sum_by_push, sum_by-set}
 use Rattle.std.proofs.lemmas.List.Elements.{All-push, All-weaker, filter_map-append}
-use Rattle.graph_core.specs.Graph.{Fits}
 use Rattle.graph_core.specs.Side.{has, size, IsNonempty}
 use Rattle.graph_core.specs.Lines.{within, induced}
-use Rattle.graph_core.specs.Picked.{picked, occurrences}
+use Rattle.graph_core.specs.Picked.{picked}
 use Rattle.graph_core.specs.Trees.{in_degree, IsAcyclic}
 use Rattle.graph_core.proofs.Counting.{weight, sum_by-agree}
-use Rattle.graph_core.proofs.SideLaws.{contains-has}
+use Rattle.graph_core.proofs.SideLaws.{contains-has, has-below}
 use Rattle.graph_core.specs.declared.graph.Line.{Line}
 use Rattle.flow_cuts.specs.declared.network.Cap.{Cap}
-use Rattle.edmonds_branchings.specs.Network.{cap_at, taken, IsLeft}
+use Rattle.edmonds_branchings.specs.Network.{cap_at, taken}
 use Rattle.edmonds_branchings.specs.Round.{IsEligible}
 use Rattle.edmonds_branchings.specs.Row.{row_with, IsRow}
 use Rattle.edmonds_branchings.proofs.Capacity.{left_within}
-use Rattle.edmonds_branchings.proofs.Sizes.{has_within, put_here, put_kept}
 use Rattle.edmonds_branchings.proofs.Taken.{some_line, cap-taken, left_taken}
+use Rattle.graph_core.proofs.PutLaws.{put_here, put_kept}
 
 -- the ends of a line are covered
 abbrev pub IsInner : List Bool → Line → Type 0
@@ -38,14 +36,14 @@ acyclic_more n ls l T old inner tail out X x =
           let v = l.head in
           let Y = slice_set X v false in
           let (tail_x, head_x) = and_parts (has X l.tail) (has X v) inside in
-          let smaller : size Y + weight (has X v) ≡ size X + 0 = sum_by-set weight X v false false (has_within X v head_x) in
+          let smaller : size Y + weight (has X v) ≡ size X + 0 = sum_by-set weight X v false false (has-below X v head_x) in
           let y : IsNonempty n Y = record {
             long = length-set X v false ∙ x.long;
             some_in = contains-has Y l.tail (get_or-set_other X v l.tail false false (apart_in T l.tail v tail out) ∙ tail_x);
           } in
           let same : induced Y ls ≡ induced X ls = sum_by-agree (λ z. weight (within Y z)) (λ z. weight (within X z)) ls
-              (All-weaker (IsInner T) (λ z. weight (within Y z) ≡ weight (within X z))
-              (λ z i. rw (get_or-set_other X v z.tail false false (apart_in T z.tail v i.0 out), get_or-set_other X v z.head false false (apart_in T z.head v i.1 out)) refl) ls inner) in
+          (All-weaker (IsInner T) (λ z. weight (within Y z) ≡ weight (within X z))
+          (λ z i. rw (get_or-set_other X v z.tail false false (apart_in T z.tail v i.0 out), get_or-set_other X v z.head false false (apart_in T z.head v i.1 out)) refl) ls inner) in
           omega (arith, more, ap weight inside, smaller, ap weight head_x, same, old Y y)
       | inr outside ↦ omega (arith, more, ap weight outside, old X x)
     ]

@@ -1,6 +1,6 @@
 -- The network of a digraph, before an arc is taken.
-use Rattle.std.specs.Prelude.{ℕ, zero, suc, ◌≡◌, ◌+◌, ◌-◌, ◌<◌, ◌≤◌, ◌&&◌, not, Bool, true, false, cond, List, [], ◌∷◌, ◌++◌, length, map, take, slice_get, slice_index, Some, Contains, refl}
-use Rattle.std.proofs.Common.{sym, ap, ◌∙◌, subst, inl, inr, arith}
+use Rattle.std.specs.Prelude.{ℕ, zero, suc, ◌≡◌, ◌+◌, ◌<◌, ◌&&◌, not, Bool, true, false, cond, List, [], ◌∷◌, ◌++◌, length, map, take, slice_get, slice_index, Some, refl}
+use Rattle.std.proofs.Common.{sym, ap, ◌∙◌, inl, inr, arith}
 use Rattle.std.proofs.lemmas.Bool.{cases_lt, cases_order}
 use Rattle.std.proofs.lemmas.List.{length-map, length-append, length-take-le, get_or-take, get_or_past, get_or_append_left, get_or-append-add, get_or-map}
 use Rattle.std.proofs.lemmas.List.Sums.{sum_by-cons, sum_by-append}
@@ -15,7 +15,7 @@ use Rattle.flow_cuts.specs.declared.network.Cap.{Cap}
 use Rattle.flow_cuts.specs.Network.{across, leaving, capacity}
 use Rattle.edmonds_branchings.specs.Network.{turned, root_arcs, network_of, no_arc, cap_at, IsLeft}
 use Rattle.edmonds_branchings.specs.Rooted.{CanBePacked}
-use Rattle.edmonds_branchings.specs.Round.{IsRootless, HasCapacity}
+use Rattle.edmonds_branchings.specs.Round.{HasCapacity}
 
 -- an arc more behind those of the nodes before
 pub root_arcs-push : (n v : ℕ) (cs : List ℕ) (c : ℕ) → root_arcs n v (cs ++ c ∷ []) ≡ root_arcs n v cs ++ record { tail = v + length cs; head = n; cap = c } ∷ []

@@ -1,7 +1,7 @@
 -- What an arc that is taken leaves.
 use Rattle.std.specs.Prelude.{ℕ, ◌≡◌, ◌≢◌, ◌+◌, ◌-◌, ◌<◌, ◌≤◌, ◌==◌, Bool, true, false, List, length, slice_get, slice_index_or, slice_set, Some, All, refl}
 use Rattle.std.proofs.Common.{sym, ap, ◌∙◌, subst, inl, inr, arith}
-use Rattle.std.proofs.lemmas.Bool.{cases_eq, cases_lt, cases_Bool, false_from_ne_true, eq-eqb, ne_eqb}
+use Rattle.std.proofs.lemmas.Bool.{cases_eq, cases_lt, false_from_ne_true, eq-eqb, ne_eqb}
 use Rattle.std.proofs.lemmas.List.{length-set, get_or-set_same, get_or-set_other}
 use Rattle.std.proofs.lemmas.Option.{slice_get-get_or}
 use Rattle.std.proofs.lemmas.List.Elements.{All-from_get_or}
@@ -12,9 +12,9 @@ use Rattle.graph_core.specs.declared.graph.Line.{Line}
 use Rattle.flow_cuts.specs.declared.network.Cap.{Cap}
 use Rattle.flow_cuts.specs.Network.{across, capacity}
 use Rattle.edmonds_branchings.specs.Network.{no_arc, cap_at, taken, AreEnds, IsLeft}
-use Rattle.edmonds_branchings.specs.Round.{IsRootless, AreApart, IsRound, IsFree, IsEligible}
+use Rattle.edmonds_branchings.specs.Round.{AreApart, IsRound, IsFree, IsEligible}
 use Rattle.edmonds_branchings.proofs.Capacity.{left_within, capacity-taken, tail-taken, head-taken}
-use Rattle.edmonds_branchings.proofs.Sizes.{put_here, put_kept}
+use Rattle.graph_core.proofs.PutLaws.{put_here, put_kept}
 
 no_line : Line
 no_line = record { tail = 0; head = 0; fixed = false }

@@ -8,7 +8,8 @@ use crate::round::make_branching;
 use graph_core::{Counts, Graph, NoMemory, NumberRows};
 use std::alloc::Global;
 
-/// Packs `k` branchings, of which at most `roots[v]` begin at each node v (Edmonds 1973, by Lovász's proof of 1976).
+/// Packs `k` branchings, no arc in two. A branching begins at the nodes that are the head of none of its arcs, and at most
+/// `roots[v]` of them begin at each node v (Edmonds 1973, by Lovász's proof of 1976).
 pub fn pack_rooted(
     alloc: Global,
     graph: &Graph,

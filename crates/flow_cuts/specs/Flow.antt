@@ -1,6 +1,6 @@
 -- What a flow is seen as: its network and its last run.
 use Rattle.std.specs.Prelude.{◌≡◌, ◌≢◌, ℕ, ◌<◌, Bool, List, length, All, Option, Some}
-pub use Rattle.graph_core.specs.Side.{IsOnly}
+use Rattle.graph_core.specs.Side.{IsOnly}
 use Rattle.graph_core.specs.Walks.{IsWalk, AreDisjoint}
 use Rattle.graph_core.specs.declared.graph.Kind.{Kind}
 use Rattle.graph_core.specs.declared.graph.Line.{Line}

@@ -41,5 +41,5 @@ covering g k rows P m all = record {
 }
 
 -- disjoint forests have no more lines than there are
-pub rows-most : (g : GraphValue) (k : ℕ) (rows : List (List ℕ)) (P : List (List Bool)) → AreMostForests (length g.names) g.lines k rows P → sum_by length rows ≤ length g.lines
-rows-most g k rows P m = omega (arith, rows-weighed (length g.names) g.lines rows m.forests, weighed-least g.lines (λ j. occurrences j (concat rows)) m.disjoint)
+pub rows-within : (g : GraphValue) (k : ℕ) (rows : List (List ℕ)) (P : List (List Bool)) → AreMostForests (length g.names) g.lines k rows P → sum_by length rows ≤ length g.lines
+rows-within g k rows P m = omega (arith, rows-weighed (length g.names) g.lines rows m.forests, weighed-least g.lines (λ j. occurrences j (concat rows)) m.disjoint)

@@ -14,7 +14,8 @@ use Rattle.graph_core.specs.Lines.{within, induced}
 use Rattle.graph_core.specs.declared.graph.Line.{Line}
 use Rattle.graph_core.proofs.Counting.{weight, sum_by-add, sum_by-same}
 use Rattle.graph_core.proofs.FamilyLaws.{between-and-within, sum_by-size_of_partition, size-nonempty}
-use Rattle.graphic_matroid.specs.Counts.{weight_true, weight_false, has-short, size-some}
+use Rattle.graph_core.proofs.SizeLaws.{weight_true, weight_false}
+use Rattle.graph_core.proofs.SplitLaws.{size-has}
 use Rattle.graphic_matroid.specs.Forests.{AreMostForests}
 use Rattle.graphic_matroid.proofs.DualCounts.{most-sum}
 use Rattle.problem_defs.specs.Ceil.{div_ceil-le}
@@ -24,8 +25,8 @@ use Rattle.forest_cover.specs.Dense.{demand, IsDensest}
 two_nodes : (X : List Bool) (u v : ℕ) → u ≢ v → has X u ≡ true → has X v ≡ true → 2 ≤ size X
 two_nodes [] u v ne a b = absurd (both_ways false refl a)
 two_nodes (x ∷ X) zero zero ne a b = absurd (ne refl)
-two_nodes (x ∷ X) zero (suc v) ne a b = omega (arith, sum_by-cons weight x X, weight_true x a, size-some X v (has-short X v b) b)
-two_nodes (x ∷ X) (suc u) zero ne a b = omega (arith, sum_by-cons weight x X, weight_true x b, size-some X u (has-short X u a) a)
+two_nodes (x ∷ X) zero (suc v) ne a b = omega (arith, sum_by-cons weight x X, weight_true x a, size-has X v b)
+two_nodes (x ∷ X) (suc u) zero ne a b = omega (arith, sum_by-cons weight x X, weight_true x b, size-has X u a)
 two_nodes (x ∷ X) (suc u) (suc v) ne a b = omega (arith, sum_by-cons weight x X, two_nodes X u v (λ e. ne (ap suc e)) a b)
 
 -- a line lies within a side of two nodes or more

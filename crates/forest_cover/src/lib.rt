@@ -5,6 +5,3 @@ mod cover;
 mod dense;
 
 pub use cover::cover_forests;
-
-#[cfg(test)]
-mod tests;

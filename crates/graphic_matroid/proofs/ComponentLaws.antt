@@ -17,7 +17,8 @@ use Rattle.matroid_union.proofs.Sizes.{length_of}
 use Rattle.graphic_matroid.specs.Labels.{class, splits, unfit}
 use Rattle.graphic_matroid.specs.Roots.{AreClasses}
 use Rattle.graphic_matroid.specs.Components.{AreComponents, IsRootOf, classes_of}
-use Rattle.graphic_matroid.specs.Counts.{weight_true, weight_false, weight_most, count-cons, count-le_three, sum_one, nonempty}
+use Rattle.graph_core.proofs.SizeLaws.{weight_true, weight_false, weight_most, count-cons, count-le_three, sum_one}
+use Rattle.graph_core.proofs.SideLaws.{nonempty-has}
 use Rattle.graphic_matroid.specs.LabelLaws.{in_class, to_class, split_not}
 use Rattle.graphic_matroid.specs.ForestLaws.{fit_ends}
 
@@ -133,7 +134,7 @@ module _ (n : ℕ) (parents : List ℕ) (ls : List Line) (fit : count_by (unfit 
   pub components_of : AreComponents n ls (classes_of n lab)
   components_of = record {
     partition = record {
-      nonempty = All-classes n lab (IsNonempty n) (λ r l e. nonempty n (class n lab r) r (length_of n (λ v. eqb (lab v) r)) (to_class n lab r r l e));
+      nonempty = All-classes n lab (IsNonempty n) (λ r l e. nonempty-has n (class n lab r) r (length_of n (λ v. eqb (lab v) r)) (to_class n lab r r l e));
       each = λ v l. omega (arith, members-once n lab v, count-some n lab (λ X. has X v) (lab v) (below v l) (root_root v l) (to_class n lab (lab v) v l refl));
     };
     apart = omega (arith, count-le_three (parted (classes_of n lab)) (splits w.label) (unfit n) (unfit n) parted_splits ls, w.is.closed);

@@ -18,7 +18,8 @@ use Rattle.matroid_union.proofs.Sizes.{length_of, has_of}
 use Rattle.graphic_matroid.specs.Chosen.{chosen}
 use Rattle.graphic_matroid.specs.Labels.{class, splits, unfit, Labels}
 use Rattle.graphic_matroid.specs.Components.{AreComponents}
-use Rattle.graphic_matroid.specs.Counts.{weight_true, weight_false, weight_most, count-cons, count-le_three, has-short}
+use Rattle.graph_core.proofs.SizeLaws.{weight_true, weight_false, weight_most, count-cons, count-le_three}
+use Rattle.graph_core.proofs.SideLaws.{has-below}
 use Rattle.graphic_matroid.specs.ChosenLaws.{chosen-le, chosen-all, chosen-set, chosen-some, chosen-find}
 use Rattle.graphic_matroid.specs.LabelLaws.{in_class, to_class, split_is, split_not, forest_more}
 use Rattle.graphic_matroid.specs.ForestLaws.{labels_exist, Labelled, fit_ends}
@@ -160,7 +161,7 @@ module _ (n : ℕ) (ls : List Line) (fit : count_by (unfit n) ls ≡ 0) (k : ℕ
       one_label u h =
           ⊎_elim (λ e. e)
           (λ ne.
-          let lu : u < n = subst (λ m. u < m) long (has-short C u h) in
+          let lu : u < n = subst (λ m. u < m) long (has-below C u h) in
           let X : List Bool = class n label (label u) in
           let none = uncut (class n label (label u)) (λ a b la lb e. has_of n (λ v. eqb (label v) (label u)) a la ∙ ap (λ x. eqb x (label u)) e ∙ sym (has_of n (λ v. eqb (label v) (label u)) b lb)) in
           let out : has (class n label (label u)) v0 ≡ false = false_from_ne_true (has (class n label (label u)) v0) (λ t. ne (sym (in_class n label (label u) v0 t).1)) in

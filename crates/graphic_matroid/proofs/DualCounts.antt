@@ -19,7 +19,7 @@ use Rattle.matroid_union.specs.Union.{names, row, IsUnion}
 use Rattle.matroid_union.proofs.Sizes.{has_of}
 use Rattle.graphic_matroid.specs.Chosen.{chosen}
 use Rattle.graphic_matroid.specs.Components.{AreComponents}
-use Rattle.graphic_matroid.specs.Counts.{weight_true, weight_false, count-cons}
+use Rattle.graph_core.proofs.SizeLaws.{weight_true, weight_false, count-cons}
 use Rattle.graphic_matroid.specs.ChosenLaws.{chosen-le, chosen-some}
 use Rattle.graphic_matroid.specs.Forests.{AreMostForests}
 use Rattle.graphic_matroid.proofs.RootLaws.{count_by-unfit}

@@ -7,7 +7,7 @@ use Rattle.std.proofs.lemmas.List.{length-set, get_or-set_same, get_or-set_other
 use Rattle.graph_core.specs.declared.graph.Line.{Line}
 use Rattle.graph_core.specs.Graph.{Fits}
 use Rattle.graphic_matroid.specs.Labels.{unfit, joined, Adds}
-use Rattle.graphic_matroid.specs.Counts.{weight_false, count-cons}
+use Rattle.graph_core.proofs.SizeLaws.{weight_false, count-cons}
 use Rattle.graphic_matroid.specs.Roots.{AreRoots, AreClasses}
 use Rattle.graphic_matroid.specs.JoinLaws.{joined_at, joined_off, joined_same, labels_more}
 use Rattle.graphic_matroid.specs.ForestLaws.{labels_none, finest_none, finest_more}

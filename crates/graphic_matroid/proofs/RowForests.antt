@@ -1,38 +1,41 @@
 -- The rows of a union are forests.
-use Rattle.std.proofs.Common.{ℕ, zero, suc, ◌≡◌, ◌+◌, ◌<◌, ◌≤◌, Bool, true, false, cond, eqb, List, [], ◌∷◌, length, map, count_by, sym, refl, ap, ◌∙◌, arith, ⊎_elim}
+use Rattle.std.proofs.Common.{ℕ, zero, suc, ◌≡◌, ◌+◌, ◌<◌, ◌≤◌, Bool, true, false, cond, eqb, List, [], ◌∷◌, length, count_by, sym, refl, ap, ◌∙◌, arith, ⊎_elim}
 use Rattle.std.specs.Prelude.{All}
-use Rattle.std.specs.List.{range_with_len, concat}
+use Rattle.std.specs.List.{concat}
 use Rattle.std.proofs.lemmas.Bool.{cases_Bool, both_ways, eq-eqb, or_left, or_right, or_cases}
 use Rattle.std.proofs.lemmas.List.Sums.{sum_by-cons, sum_by-append}
 use Rattle.std.proofs.lemmas.List.Elements.{All-nil, All-cons, All-from_get_or}
+use Rattle.graph_core.specs.Side.{has}
 use Rattle.graph_core.specs.Picked.{occurrences, IsDistinct, picked}
 use Rattle.graph_core.specs.Trees.{IsAcyclic, IsForest}
 use Rattle.graph_core.specs.declared.graph.Line.{Line}
 use Rattle.graph_core.proofs.Counting.{weight, weighed, count_by-picked, count_by-picks}
 use Rattle.matroid_union.specs.Sets.{set_of}
+use Rattle.matroid_union.proofs.Sizes.{has_of}
 use Rattle.matroid_union.specs.Union.{names, row, IsUnion}
 use Rattle.graphic_matroid.specs.Chosen.{chosen}
-use Rattle.graphic_matroid.specs.Counts.{weight_true, weight_false}
+use Rattle.graph_core.proofs.SizeLaws.{weight_true, weight_false}
 use Rattle.graphic_matroid.specs.ChosenLaws.{chosen-cons}
 use Rattle.graphic_matroid.specs.ForestLaws.{forest_same}
 
--- a set by a test, line by line
-chosen-weighed : (p : Line → Bool) (f : ℕ → Bool) (a : ℕ) (ls : List Line) → count_by p (chosen (map f (range_with_len a (length ls))) ls) ≡ weighed p ls (λ j. weight (f (a + j)))
-chosen-weighed p f a [] = refl
-chosen-weighed p f a (l ∷ ls) =
-    let next : (j : ℕ) → (a + 1) + j ≡ a + suc j = λ j. omega arith in
-    let rest : count_by p (chosen (map f (range_with_len (a + 1) (length ls))) ls) ≡ weighed p ls (λ j. weight (f (a + suc j))) =
-    chosen-weighed p f (a + 1) ls ∙ (λ t. weighed p ls (λ j. weight (f (next j t)))) in
-    let here : a ≡ a + 0 = omega arith in
-    chosen-cons p (f a) (map f (range_with_len (a + 1) (length ls))) l ls
-    ∙ (λ t. cond (f (here t)) (weight (p l)) 0 + rest t)
-    ∙ ap (λ k. k + weighed p ls (λ j. weight (f (a + suc j)))) (both (f (a + 0)) (p l))
+-- the lines of a set, counted by number
+pub chosen-weighed : (p : Line → Bool) (A : List Bool) (ls : List Line) → count_by p (chosen A ls) ≡ weighed p ls (λ j. weight (has A j))
+chosen-weighed p [] [] = refl
+chosen-weighed p [] (l ∷ ls) =
+    let rest : 0 ≡ weighed p ls (λ _. 0) = chosen-weighed p [] ls in
+    elim (p l) as (λ b. 0 ≡ cond b 0 0 + weighed p ls (λ _. 0)) [ true ↦ omega (arith, rest) | false ↦ omega (arith, rest) ]
+chosen-weighed p (b ∷ A) [] = refl
+chosen-weighed p (b ∷ A) (l ∷ ls) = chosen-cons p b A l ls ∙ (λ t. both b (p l) t + chosen-weighed p A ls t)
   where
     both : (x y : Bool) → cond x (weight y) 0 ≡ cond y (weight x) 0
     both true true = refl
     both true false = refl
     both false true = refl
     both false false = refl
+
+weighed-agree : (p : Line → Bool) (ls : List Line) (f g : ℕ → ℕ) → ((j : ℕ) → j < length ls → f j ≡ g j) → weighed p ls f ≡ weighed p ls g
+weighed-agree p [] f g h = refl
+weighed-agree p (l ∷ ls) f g h = (λ t. cond (p l) (h 0 (omega arith) t) 0 + weighed-agree p ls (λ j. f (suc j)) (λ j. g (suc j)) (λ j k. h (suc j) (omega arith)) t)
 
 -- a number that stands once at most stands once where it is named
 occurs_named : (js : List ℕ) (j : ℕ) → occurrences j js ≤ 1 → occurrences j js ≡ weight (names js j)
@@ -55,8 +58,9 @@ occurs_named (x ∷ js) j h =
 -- the lines with distinct numbers, counted as a set
 pub picked-chosen : (ls : List Line) (js : List ℕ) → IsDistinct js → (p : Line → Bool) → count_by p (picked ls js) ≡ count_by p (chosen (set_of (length ls) (names js)) ls)
 picked-chosen ls js d p =
-    let number : (j : ℕ) → j ≡ 0 + j = λ j. omega arith in
-    count_by-picked p ls js ∙ count_by-picks p ls js ∙ (λ t. weighed p ls (λ j. occurs_named js j (d j) t)) ∙ (λ t. weighed p ls (λ j. weight (names js (number j t)))) ∙ sym (chosen-weighed p (names js) 0 ls)
+    count_by-picked p ls js ∙ count_by-picks p ls js
+    ∙ weighed-agree p ls (λ j. occurrences j js) (λ j. weight (has (set_of (length ls) (names js)) j)) (λ j l. occurs_named js j (d j) ∙ ap weight (sym (has_of (length ls) (names js) j l)))
+    ∙ sym (chosen-weighed p (set_of (length ls) (names js)) ls)
 
 -- a row is a part of all rows
 row-le : (rows : List (List ℕ)) (p j : ℕ) → occurrences j (row rows p) ≤ occurrences j (concat rows)

@@ -5,7 +5,7 @@ use Rattle.graph_core.specs.Side.{has, size}
 use Rattle.graph_core.specs.declared.graph.Line.{Line}
 use Rattle.graphic_matroid.specs.Chosen.{chosen}
 use Rattle.graph_core.proofs.Counting.{weight}
-use Rattle.graphic_matroid.specs.Counts.{weight_true, weight_false, count-cons}
+use Rattle.graph_core.proofs.SizeLaws.{weight_true, weight_false, count-cons}
 
 module _ (p : Line → Bool) where
   pub chosen-cons : (b : Bool) (A : List Bool) (l : Line) (ls : List Line) → count_by p (chosen (b ∷ A) (l ∷ ls)) ≡ cond b (weight (p l)) 0 + count_by p (chosen A ls)

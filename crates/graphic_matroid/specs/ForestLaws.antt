@@ -17,7 +17,8 @@ use Rattle.graphic_matroid.specs.LabelLaws.{in_class, to_class, split_not, split
 use Rattle.graphic_matroid.specs.JoinLaws.{labels_more, joined_at, joined_off}
 use Rattle.graph_core.proofs.Counting.{weight, sum_by-add, sum_by-swap}
 use Rattle.matroid_union.proofs.Sizes.{length_of}
-use Rattle.graphic_matroid.specs.Counts.{weight_true, weight_false, weight_most, count-cons, count-none, sum-le, sum_one, nonempty, some_or_none}
+use Rattle.graph_core.proofs.SizeLaws.{weight_true, weight_false, weight_most, count-cons, count-none, sum-le, sum_one, some_or_none}
+use Rattle.graph_core.proofs.SideLaws.{nonempty-has}
 
 -- the ends of a line that is fit
 pub fit_ends : (n : ℕ) (l : Line) → unfit n l ≡ false → (l.tail < n) × (l.head < n)
@@ -134,7 +135,7 @@ module _ (n : ℕ) (lab : ℕ → ℕ) where
     class_le r =
         ⊎_elim
         (λ v.
-        let few : count_by (within (class n lab r)) more < size (class n lab r) = forest (class n lab r) (nonempty n (class n lab r) v.0 (length_of n (λ x. eqb (lab x) r)) v.1) in
+        let few : count_by (within (class n lab r)) more < size (class n lab r) = forest (class n lab r) (nonempty-has n (class n lab r) v.0 (length_of n (λ x. eqb (lab x) r)) v.1) in
         omega (arith, w.tight r))
         (λ none. omega (arith, count-none (within (class n lab r)) (λ l. and_left (has (class n lab r) l.tail) (has (class n lab r) l.head) (none l.tail)) more))
         (some_or_none (class n lab r))

@@ -10,7 +10,7 @@ use Rattle.graphic_matroid.specs.LabelLaws.{in_class, to_class, split_not, split
 use Rattle.graph_core.proofs.Counting.{weight}
 use Rattle.graph_core.proofs.FamilyLaws.{count_by-le}
 use Rattle.matroid_union.proofs.Sizes.{length_of}
-use Rattle.graphic_matroid.specs.Counts.{weight_true, weight_false, weight_most, count-le_both, size-le_sum, size-none}
+use Rattle.graph_core.proofs.SizeLaws.{weight_true, weight_false, weight_most, count-le_both, size-le_sum, size-none}
 
 module _ (lab : ℕ → ℕ) (a b : ℕ) where
   pub joined_at : (v : ℕ) → lab v ≡ a → joined lab a b v ≡ b

@@ -1,6 +1,7 @@
 -- Classes joined by lines.
 use Rattle.std.proofs.Common.{ℕ, ◌≡◌, ◌≢◌, ◌+◌, ◌<◌, ◌≤◌, Bool, true, false, not, eqb, ◌&&◌, List, length, count_by, sym, refl, ap, ◌∙◌, arith, ⊎_elim, subst}
 use Rattle.std.proofs.lemmas.Bool.{cases_eq, cases_lt, cases_Bool, both_ways, eqb-true, eqb-false, eq-eqb, ne_eqb, and_parts, and_from, not-true, not-false, not_from_true, not_from_false}
+use Rattle.std.proofs.lemmas.List.{get_or_past}
 use Rattle.graph_core.specs.Side.{has, size}
 use Rattle.graph_core.specs.Lines.{within}
 use Rattle.graph_core.specs.Trees.{IsAcyclic}
@@ -9,7 +10,11 @@ use Rattle.matroid_union.specs.Sets.{set_of}
 use Rattle.graphic_matroid.specs.Labels.{class, splits, Labels, Adds}
 use Rattle.graph_core.proofs.Counting.{weight}
 use Rattle.matroid_union.proofs.Sizes.{length_of, has_of}
-use Rattle.graphic_matroid.specs.Counts.{weight_true, weight_false, weight_most, count-le_three, size-ge_sum, has-short, nonempty, has_past}
+use Rattle.graph_core.proofs.SizeLaws.{weight_true, weight_false, weight_most, count-le_three, size-ge_sum}
+use Rattle.graph_core.proofs.SideLaws.{has-below, nonempty-has}
+
+has_past : (n : ℕ) (f : ℕ → Bool) (k : ℕ) → n ≤ k → has (set_of n f) k ≡ false
+has_past n f k l = get_or_past (set_of n f) k false (rw (length_of n f) l)
 
 module _ (n : ℕ) (lab : ℕ → ℕ) where
   -- what is in a class
@@ -67,8 +72,8 @@ module _ (n : ℕ) (lab : ℕ → ℕ) where
       (λ s. omega (arith, weight_true (splits lab l) s, weight_most (within X l)))
       (λ s.
       let ends = and_parts (has X l.tail) (has X l.head) w in
-      let t_in : l.tail < n = subst (λ x. l.tail < x) e (has-short X l.tail ends.0) in
-      let h_in : l.head < n = subst (λ x. l.head < x) e (has-short X l.head ends.1) in
+      let t_in : l.tail < n = subst (λ x. l.tail < x) e (has-below X l.tail ends.0) in
+      let h_in : l.head < n = subst (λ x. l.head < x) e (has-below X l.head ends.1) in
       let same : lab l.tail ≡ lab l.head = split_not l s in
       ⊎_elim
       (λ yes_r.
@@ -90,12 +95,12 @@ module _ (n : ℕ) (lab : ℕ → ℕ) where
     -- a side with nodes of two classes has two lines fewer than nodes
     pub apart : (X : List Bool) (t h : ℕ) → length X ≡ n → has X t ≡ true → has X h ≡ true → lab t ≢ lab h → count_by (within X) ls + 2 ≤ size X
     apart X t h e ht hh ne =
-        let t_in : t < n = subst (λ x. t < x) e (has-short X t ht) in
-        let h_in : h < n = subst (λ x. h < x) e (has-short X h hh) in
+        let t_in : t < n = subst (λ x. t < x) e (has-below X t ht) in
+        let h_in : h < n = subst (λ x. h < x) e (has-below X h hh) in
         let t_part : has (part_in X (lab t)) t ≡ true = has_of n (λ v. has X v && eqb (lab v) (lab t)) t t_in ∙ and_from (has X t) (eqb (lab t) (lab t)) ht (eq-eqb (lab t) (lab t) refl) in
         let h_part : has (part_out X (lab t)) h ≡ true = has_of n (λ v. has X v && not (eqb (lab v) (lab t))) h h_in ∙ and_from (has X h) (not (eqb (lab h) (lab t))) hh (not_from_false (eqb (lab h) (lab t)) (ne_eqb (lab h) (lab t) (λ x. ne (sym x)))) in
-        let first : count_by (within (part_in X (lab t))) ls < size (part_in X (lab t)) = forest (part_in X (lab t)) (nonempty n (part_in X (lab t)) t (length_of n (λ v. has X v && eqb (lab v) (lab t))) t_part) in
-        let second : count_by (within (part_out X (lab t))) ls < size (part_out X (lab t)) = forest (part_out X (lab t)) (nonempty n (part_out X (lab t)) h (length_of n (λ v. has X v && not (eqb (lab v) (lab t)))) h_part) in
+        let first : count_by (within (part_in X (lab t))) ls < size (part_in X (lab t)) = forest (part_in X (lab t)) (nonempty-has n (part_in X (lab t)) t (length_of n (λ v. has X v && eqb (lab v) (lab t))) t_part) in
+        let second : count_by (within (part_out X (lab t))) ls < size (part_out X (lab t)) = forest (part_out X (lab t)) (nonempty-has n (part_out X (lab t)) h (length_of n (λ v. has X v && not (eqb (lab v) (lab t)))) h_part) in
         let sizes : size (part_in X (lab t)) + size (part_out X (lab t)) ≤ size X = size-ge_sum X (part_in X (lab t)) (part_out X (lab t)) (length_of n (λ v. has X v && eqb (lab v) (lab t)) ∙ sym e) (length_of n (λ v. has X v && not (eqb (lab v) (lab t))) ∙ sym e) (halves X (lab t) e) in
         let lines : count_by (within X) ls ≤ count_by (splits lab) ls + count_by (within (part_in X (lab t))) ls + count_by (within (part_out X (lab t))) ls = count-le_three (within X) (splits lab) (within (part_in X (lab t))) (within (part_out X (lab t))) (in_half X (lab t) e) ls in
         omega arith
@@ -119,7 +124,7 @@ module _ (n : ℕ) (lab : ℕ → ℕ) where
       let t : has (class n lab (lab l.tail)) l.tail ≡ true = to_class (lab l.tail) l.tail lt refl in
       let h : has (class n lab (lab l.tail)) l.head ≡ true = to_class (lab l.tail) l.head lh (sym e) in
       let inside : within (class n lab (lab l.tail)) l ≡ true = and_from (has (class n lab (lab l.tail)) l.tail) (has (class n lab (lab l.tail)) l.head) t h in
-      let few : count_by (within (class n lab (lab l.tail))) more < size (class n lab (lab l.tail)) = forest (class n lab (lab l.tail)) (nonempty n (class n lab (lab l.tail)) l.tail (length_of n (λ v. eqb (lab v) (lab l.tail))) t) in
+      let few : count_by (within (class n lab (lab l.tail))) more < size (class n lab (lab l.tail)) = forest (class n lab (lab l.tail)) (nonempty-has n (class n lab (lab l.tail)) l.tail (length_of n (λ v. eqb (lab v) (lab l.tail))) t) in
       let counted = adds.counts (within (class n lab (lab l.tail))) in
       let tight = w.tight (lab l.tail) in
       omega (arith, weight_true (within (class n lab (lab l.tail)) l) inside)

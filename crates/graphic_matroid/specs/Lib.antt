@@ -3,7 +3,6 @@ pub mod Labels
 pub mod Roots
 pub mod Components
 pub mod Forests
-pub mod Counts
 pub mod ChosenLaws
 pub mod LabelLaws
 pub mod JoinLaws

@@ -3,12 +3,12 @@
 
 mod classes;
 mod component;
+mod forests;
 mod graphic;
-mod packed;
 
 pub use component::components;
+pub use forests::{Forests, most_forests, no_more_lines};
 pub use graphic::Graphic;
-pub use packed::{Forests, most_forests, no_more_lines};
 
 #[cfg(test)]
 mod tests;

@@ -1,5 +1,5 @@
 -- When disjoint forests are spanning trees, and what their classes show when they aren't.
-use Rattle.std.proofs.Common.{ℕ, zero, suc, ◌≡◌, ◌+◌, ◌-◌, ◌*◌, ◌<◌, ◌≤◌, Bool, true, false, List, [], ◌∷◌, length, replicate, refl, ap, arith, ⊎_elim}
+use Rattle.std.proofs.Common.{ℕ, ◌≡◌, ◌+◌, ◌-◌, ◌*◌, ◌<◌, ◌≤◌, Bool, true, false, List, [], ◌∷◌, length, replicate, ap, arith, ⊎_elim}
 use Rattle.std.specs.Prelude.{All, sum_by}
 use Rattle.std.proofs.lemmas.Bool.{cases_lt, and_from}
 use Rattle.std.proofs.lemmas.List.{length-replicate, get_or-replicate}
@@ -12,7 +12,7 @@ use Rattle.graph_core.specs.Picked.{picked}
 use Rattle.graph_core.specs.Trees.{IsForest, IsSpanningTree}
 use Rattle.graph_core.specs.declared.graph.Line.{Line}
 use Rattle.graph_core.proofs.Counting.{weight, All-both, All-picked, length-all_picked, sum_by-ones}
-use Rattle.graphic_matroid.specs.Counts.{size-all}
+use Rattle.graph_core.proofs.SizeLaws.{size-all}
 use Rattle.graphic_matroid.specs.Forests.{AreMostForests}
 use Rattle.graphic_matroid.proofs.DualCounts.{most-sum}
 use Rattle.problem_defs.specs.Trees.{IsFeasible, IsDual}

@@ -1,10 +1,9 @@
 -- Single nodes.
-use Rattle.std.proofs.Common.{ℕ, suc, ◌≡◌, ◌≢◌, ◌<◌, ◌≤◌, Bool, true, false, eqb, List, [], ◌∷◌, length, get_or, set, replicate, refl, sym, ◌∙◌, arith, ⊎_elim, subst}
+use Rattle.std.proofs.Common.{ℕ, suc, ◌≡◌, ◌≢◌, ◌<◌, ◌≤◌, Bool, true, false, eqb, List, [], ◌∷◌, length, get_or, replicate, refl, sym, ◌∙◌, arith, ⊎_elim, subst}
 use Rattle.std.specs.Prelude.{All}
 use Rattle.std.proofs.lemmas.Bool.{cases_eq, eq-eqb, ne_eqb, false_from_ne_true}
-use Rattle.std.proofs.lemmas.List.{length-set, length-replicate, get_or-set_same, get_or-set_other, get_or-replicate}
 use Rattle.std.proofs.lemmas.List.Sums.{sum_by-cons}
-use Rattle.graph_core.specs.Side.{has, size, IsProper}
+use Rattle.graph_core.specs.Side.{has, size, IsOnly, IsProper}
 use Rattle.graph_core.specs.Lines.{crosses}
 use Rattle.graph_core.specs.declared.graph.Line.{Line}
 use Rattle.graph_core.proofs.Counting.{weight, sum_by-le_each, sum_by-same}
@@ -14,20 +13,19 @@ use Rattle.matroid_union.proofs.Sizes.{has_of}
 use Rattle.graphic_matroid.specs.Chosen.{chosen}
 use Rattle.graphic_matroid.specs.ChosenLaws.{chosen-none}
 use Rattle.graphic_matroid.specs.Components.{AreComponents}
-use Rattle.graphic_matroid.specs.Counts.{size-none, has-short}
+use Rattle.graph_core.proofs.SideLaws.{has-below, contains-has}
+use Rattle.graph_core.proofs.SizeLaws.{size-none}
 
 -- a side of one node, of two or more
-pub alone-proper : (n v : ℕ) → 2 ≤ n → v < n → IsProper n (set (replicate n false) v true)
-alone-proper n v two l =
-    let zeros : length (replicate n false) ≡ n = length-replicate n false in
-    let long : length (set (replicate n false) v true) ≡ n = length-set (replicate n false) v true ∙ zeros in
-    let out : (k : ℕ) → k ≢ v → k < n → get_or (set (replicate n false) v true) k false ≡ false = λ k ne lk. get_or-set_other (replicate n false) v k true false ne ∙ get_or-replicate n k false false lk in
+pub only-proper : (n v : ℕ) (X : List Bool) → 2 ≤ n → length X ≡ n → IsOnly X v → IsProper n X
+only-proper n v X two long w =
+    let out : (k : ℕ) → k ≢ v → has X k ≡ false = λ k ne. false_from_ne_true (has X k) (λ t. ne (w.only k t)) in
     record {
       long = long;
-      some_in = (v, rw long l, get_or-set_same (replicate n false) v true true (rw zeros l));
+      some_in = contains-has X v w.here;
       some_out = ⊎_elim
-          (λ (e : v ≡ 0). (1, rw long (omega arith), out 1 (λ h. absurd (omega arith)) (omega arith)))
-          (λ (ne : v ≢ 0). (0, rw long (omega arith), out 0 (λ h. ne (sym h)) (omega arith)))
+          (λ (e : v ≡ 0). (1, rw long (omega arith), out 1 (λ h. absurd (omega arith))))
+          (λ (ne : v ≢ 0). (0, rw long (omega arith), out 0 (λ h. ne (sym h))))
           (cases_eq v 0);
     }
 
@@ -53,8 +51,8 @@ singles n m ls P w =
         ⊎_elim (λ e. e)
         (λ ne.
         let long : length (get_or P i d) ≡ n = (w.partition.nonempty i d l).long in
-        let lu : u < n = subst (λ m. u < m) long (has-short (get_or P i d) u a) in
-        let lv : v < n = subst (λ m. v < m) long (has-short (get_or P i d) v b) in
+        let lu : u < n = subst (λ m. u < m) long (has-below (get_or P i d) u a) in
+        let lv : v < n = subst (λ m. v < m) long (has-below (get_or P i d) v b) in
         let at_u : has (set_of n (λ x. eqb x u)) u ≡ true = has_of n (λ x. eqb x u) u lu ∙ eq-eqb u u refl in
         let at_v : has (set_of n (λ x. eqb x u)) v ≡ false = has_of n (λ x. eqb x u) v lv ∙ ne_eqb v u (λ e. ne (sym e)) in
         let some = w.joined (set_of n (λ x. eqb x u)) i d l u v a b at_u at_v in

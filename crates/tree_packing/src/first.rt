@@ -1,4 +1,4 @@
-ghost use Rattle.std.specs.Prelude.{◌≡◌, ◌⊎◌, ◌<◌, ◌≤◌, [], ◌∷◌, length, replicate, IfOk};
+ghost use Rattle.std.specs.Prelude.{◌≡◌, ◌<◌, ◌≤◌, [], ◌∷◌, length, replicate, IfOk};
 ghost use Rattle.graph_core.specs.Side.{complement, IsProper};
 ghost use Rattle.problem_defs.specs.Trees.{Suits, IsDual};
 
@@ -70,24 +70,14 @@ fn least_node(alloc: Global, graph: &Graph) -> Result<Side, NoMemory>
 {
     graph.known();
     let n = graph.node_count();
-    let mut least = alone(alloc, n, 0)?;
+    let mut node = Side::empty(alloc, n)?;
+    let mut least = Side::empty(alloc, n)?;
+    least.hold_only(0);
     for v in 1..n as u32 {
-        let side = alone(alloc, n, v)?;
-        if graph.degree(&side) < graph.degree(&least) {
-            least = side;
+        node.hold_only(v);
+        if graph.degree(&node) < graph.degree(&least) {
+            least.hold_only(v);
         }
     }
     Ok(least)
-}
-
-/// One of two or more nodes.
-fn alone(alloc: Global, n: usize, v: u32) -> Result<Side, NoMemory>
-    requires some { 2 ≤ n }
-    requires few { n ≤ 8192 }
-    requires node { v < n }
-    ensures { IfOk result (IsProper n) }
-{
-    let mut side = Side::empty(alloc, n)?;
-    side.put(v, true);
-    Ok(side)
 }

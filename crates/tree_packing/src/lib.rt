@@ -5,6 +5,3 @@ mod first;
 mod packing;
 
 pub use packing::pack_trees;
-
-#[cfg(test)]
-mod tests;

@@ -1,7 +1,6 @@
-use Rattle.std.proofs.Common.{◌≡◌, ◌+◌, ◌-◌, suc, ◌++◌, length, take, drop, ap, subst, ◌∙◌, true, arith, length-drop}
-use Rattle.std.specs.Prelude.{slice_set}
+use Rattle.std.proofs.Common.{◌≡◌, ◌+◌, ◌-◌, suc, ◌++◌, length, take, drop, ap, subst, ◌∙◌, arith, length-drop}
 use Rattle.std.proofs.lemmas.List.{take_all}
-use Rattle.certificate_checker.specs.TreeSides.{pair_at, IsGrown, AreUncrossed}
+use Rattle.certificate_checker.specs.TreeSides.{IsGrown, AreUncrossed}
 use Rattle.certificate_checker.proofs.ReachLaws.{reach-made}
 use Rattle.certificate_checker.proofs.reach.reach.Goals as goal
 

@@ -1,6 +1,5 @@
-use Rattle.std.proofs.Common.{◌≡◌, ◌+◌, ◌<◌, ◌≤◌, length, map, false, sym, ap, ◌∙◌, subst, arith}
+use Rattle.std.proofs.Common.{◌≡◌, ◌<◌, length, map, false, ap, ◌∙◌, arith}
 use Rattle.std.proofs.lemmas.List.{length-replicate}
-use Rattle.graph_core.specs.Side.{IsOnly}
 use Rattle.flow_cuts.specs.Cuts.{IsLeastCapacity, IsLeastCut}
 use Rattle.edmonds_branchings.specs.Network.{turned}
 use Rattle.edmonds_branchings.proofs.LeastSide.{ends_turned, least_first, least_skip, least_next, least_all}

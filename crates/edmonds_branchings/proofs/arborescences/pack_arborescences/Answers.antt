@@ -1,6 +1,6 @@
-use Rattle.std.proofs.Common.{◌≡◌, length, sym, ap, ◌∙◌}
+use Rattle.std.proofs.Common.{length, sym, ◌∙◌}
 use Rattle.edmonds_branchings.specs.Rooted.{ArePacked}
-use Rattle.edmonds_branchings.proofs.Arborescence.{root_alone, can_be_packed, all_spanning}
+use Rattle.edmonds_branchings.proofs.OneRoot.{root_alone, can_be_packed, all_spanning}
 use Rattle.edmonds_branchings.proofs.arborescences.pack_arborescences.Goals as goal
 
 pub pack_rooted-requires-clause-ready : goal.pack_rooted-requires-clause-ready

@@ -1,13 +1,10 @@
-use Rattle.std.proofs.Common.{◌≡◌, ◌+◌, ◌<◌, length, sym, ap, ◌∙◌, arith}
+use Rattle.std.proofs.Common.{◌≡◌, ◌+◌, ◌<◌, length, ap, ◌∙◌, arith}
 use Rattle.std.proofs.lemmas.Bool.{eqb-true, eqb-false}
-use Rattle.std.proofs.lemmas.List.{length-replicate, get_or_default}
+use Rattle.std.proofs.lemmas.List.{length-replicate}
 use Rattle.flow_cuts.specs.Cuts.{IsLeastCapacity}
 use Rattle.graph_core.specs.Side.{IsOnly}
 use Rattle.edmonds_branchings.specs.Network.{cap_at}
-use Rattle.edmonds_branchings.proofs.MayTake.{free_enough, free_run, blocked_run}
-use Rattle.edmonds_branchings.proofs.Lovasz.{some_free}
-use Rattle.edmonds_branchings.proofs.Capacity.{tail-taken, head-taken, capacity-taken}
-use Rattle.edmonds_branchings.proofs.Sizes.{size-put, all_there, some_missing}
+use Rattle.edmonds_branchings.proofs.MayTake.{free_run, blocked_run}
 use Rattle.edmonds_branchings.proofs.network.may_take.Goals as goal
 
 pub returns-clause-free : goal.returns-clause-free

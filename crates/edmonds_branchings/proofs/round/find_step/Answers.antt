@@ -1,14 +1,14 @@
-use Rattle.std.proofs.Common.{ℕ, ◌≡◌, ◌<◌, ◌+◌, true, false, length, sym, ap, ◌∙◌, arith, below_more}
+use Rattle.std.proofs.Common.{◌≡◌, true, sym, ◌∙◌, arith, below_more}
 use Rattle.std.specs.Prelude.{slice_set}
 use Rattle.std.proofs.lemmas.List.{length-set}
 use Rattle.graph_core.specs.Side.{has}
 use Rattle.edmonds_branchings.specs.Round.{IsEligible, IsBlocked}
 use Rattle.edmonds_branchings.proofs.Capacity.{left_within}
 use Rattle.edmonds_branchings.proofs.Lovasz.{some_free}
-use Rattle.edmonds_branchings.proofs.Refused.{refused_more, refused_taken}
-use Rattle.edmonds_branchings.proofs.Sizes.{some_missing, put_here, put_kept}
+use Rattle.edmonds_branchings.proofs.Refused.{refused_more}
 use Rattle.edmonds_branchings.proofs.round.find_step.Goals as goal
 use Rattle.edmonds_branchings.proofs.round.find_step.Goals.{then-is_eligible+then-not-has+in_ok-may_take+else-branch, else-is_eligible, else-is_eligible-via-then-is_eligible+else-not-has, else-is_eligible-via-else-is_eligible}
+use Rattle.graph_core.proofs.PutLaws.{some_missing, put_here, put_kept}
 
 pub loop-j-preserved : goal.loop-j-preserved
 loop-j-preserved c =

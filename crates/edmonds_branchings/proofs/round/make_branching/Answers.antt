@@ -1,18 +1,16 @@
-use Rattle.std.proofs.Common.{◌≡◌, ◌+◌, ◌-◌, ◌<◌, ◌≤◌, true, length, replicate, sym, ap, ◌∙◌, subst, arith}
-use Rattle.std.specs.Prelude.{slice_set, false, IfOk}
+use Rattle.std.proofs.Common.{◌≡◌, ◌+◌, ◌-◌, ◌<◌, true, length, replicate, sym, ap, ◌∙◌, arith}
+use Rattle.std.specs.Prelude.{slice_set, false}
 use Rattle.std.proofs.lemmas.List.{length-set, length-replicate}
-use Rattle.graph_core.specs.Side.{has, size}
-use Rattle.edmonds_branchings.specs.Network.{no_arc, cap_at, taken, AreEnds}
-use Rattle.edmonds_branchings.specs.Round.{IsRound, IsEligible, IsFree, AreRefused}
-use Rattle.edmonds_branchings.specs.Row.{row_with, IsRow, IsMade}
+use Rattle.edmonds_branchings.specs.Network.{no_arc, cap_at}
+use Rattle.edmonds_branchings.specs.Round.{IsEligible, IsFree, AreRefused}
 use Rattle.edmonds_branchings.proofs.Begin.{begun, none_refused, round_begun, row_begun}
 use Rattle.edmonds_branchings.proofs.Capacity.{left_within}
 use Rattle.edmonds_branchings.proofs.Made.{made}
 use Rattle.edmonds_branchings.proofs.Refused.{refused_taken}
 use Rattle.edmonds_branchings.proofs.Row.{row_taken}
-use Rattle.edmonds_branchings.proofs.Sizes.{size-put}
 use Rattle.edmonds_branchings.proofs.Taken.{ends_left, round_taken}
 use Rattle.edmonds_branchings.proofs.round.make_branching.Goals as goal
+use Rattle.graph_core.proofs.PutLaws.{size-put}
 
 pub loop-init : goal.loop-init
 loop-init c =

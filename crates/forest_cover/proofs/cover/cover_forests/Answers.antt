@@ -2,9 +2,9 @@ use Rattle.std.proofs.Common.{◌≡◌, ◌<◌, ◌≤◌, [], length, replica
 use Rattle.std.specs.Prelude.{sum_by}
 use Rattle.std.proofs.lemmas.Option.{get_or_from_slice_get}
 use Rattle.graph_core.specs.Side.{size, IsNonempty}
-use Rattle.graphic_matroid.specs.Counts.{size-all}
+use Rattle.graph_core.proofs.SizeLaws.{size-all}
 use Rattle.forest_cover.specs.Dense.{demand}
-use Rattle.forest_cover.proofs.Covering.{covering, rows-most}
+use Rattle.forest_cover.proofs.Covering.{covering, rows-within}
 use Rattle.forest_cover.proofs.Denser.{denser, demand_is, demand_some, demand_most, some_class, nodes_two, all-nonempty}
 use Rattle.forest_cover.proofs.cover.cover_forests.Goals as goal
 
@@ -34,7 +34,7 @@ pub densest-requires-clause-some : goal.densest-requires-clause-some
 densest-requires-clause-some c =
     let g = c.args.graph.now in
     let found = c.in_ok-rows.field-0 in
-    let most = rows-most g c.demand_of.result found.rows found.classes c.in_ok-rows.ensures in
+    let most = rows-within g c.demand_of.result found.rows found.classes c.in_ok-rows.ensures in
     let ne = c.if-lines_of-line_count.false in
     let lines = c.lines_of.ensures in
     let count = c.line_count-in-improve.ensures.count in
@@ -44,7 +44,7 @@ pub improve-smaller : goal.improve-smaller
 improve-smaller c =
     let g = c.args.graph.now in
     let found = c.in_ok-rows.field-0 in
-    let most = rows-most g c.demand_of.result found.rows found.classes c.in_ok-rows.ensures in
+    let most = rows-within g c.demand_of.result found.rows found.classes c.in_ok-rows.ensures in
     let ne = c.if-lines_of-line_count.false in
     let lines = c.lines_of.ensures in
     let count = c.line_count-in-improve.ensures.count in
@@ -59,7 +59,7 @@ pub improve-preserved : goal.improve-preserved
 improve-preserved c =
     let g = c.args.graph.now in
     let found = c.in_ok-rows.field-0 in
-    let most = rows-most g c.demand_of.result found.rows found.classes c.in_ok-rows.ensures in
+    let most = rows-within g c.demand_of.result found.rows found.classes c.in_ok-rows.ensures in
     let ne = c.if-lines_of-line_count.false in
     let lines = c.lines_of.ensures in
     let count = c.line_count-in-improve.ensures.count in

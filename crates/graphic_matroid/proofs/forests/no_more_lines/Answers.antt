@@ -1,6 +1,6 @@
 use Rattle.std.proofs.Common.{length, arith}
 use Rattle.graphic_matroid.proofs.DualCounts.{rows-most, most-sum}
-use Rattle.graphic_matroid.proofs.packed.no_more_lines.Goals as goal
+use Rattle.graphic_matroid.proofs.forests.no_more_lines.Goals as goal
 
 pub returns : goal.returns
 returns c =

@@ -1,13 +1,10 @@
 -- Counts over lists, and sizes of sides.
-use Rattle.std.proofs.Common.{ℕ, zero, suc, ◌≡◌, ◌+◌, ◌<◌, ◌≤◌, Bool, true, false, cond, ◌⊎◌, inl, inr, List, [], ◌∷◌, length, count_by, replicate, refl, ap, ◌∙◌, arith, ⊎_elim}
+use Rattle.std.proofs.Common.{ℕ, zero, suc, ◌≡◌, ◌+◌, ◌<◌, ◌≤◌, Bool, true, false, cond, ◌⊎◌, inl, inr, List, [], ◌∷◌, length, count_by, replicate, refl, ap, arith, ⊎_elim}
 use Rattle.std.specs.List.{range_with_len, sum_by}
-use Rattle.std.proofs.lemmas.Bool.{cases_eq, cases_lt, both_ways}
-use Rattle.std.proofs.lemmas.List.{get_or_past, get_or_default}
-use Rattle.std.proofs.lemmas.List.Sums.{sum_by-cons, get_or-le-sum_by}
+use Rattle.std.proofs.lemmas.Bool.{cases_eq, both_ways}
+use Rattle.std.proofs.lemmas.List.Sums.{sum_by-cons}
 use Rattle.graph_core.proofs.Counting.{weight}
-use Rattle.matroid_union.proofs.Sizes.{length_of}
-use Rattle.graph_core.specs.Side.{has, size, IsNonempty}
-use Rattle.matroid_union.specs.Sets.{set_of}
+use Rattle.graph_core.specs.Side.{has, size}
 
 pub weight_true : (b : Bool) → b ≡ true → weight b ≡ 1
 weight_true b e = ap weight e
@@ -87,17 +84,6 @@ pub size-all : (n : ℕ) → size (replicate n true) ≡ n
 size-all zero = refl
 size-all (suc n) = omega (arith, count-cons (λ b. b) true (replicate n true), size-all n)
 
-pub size-some : (X : List Bool) (v : ℕ) → v < length X → has X v ≡ true → 1 ≤ size X
-size-some X v l h = omega (arith, get_or-le-sum_by weight X v false l, weight_true (has X v) h)
-
-pub has-short : (X : List Bool) (v : ℕ) → has X v ≡ true → v < length X
-has-short X v h = ⊎_elim (λ l. l) (λ l. absurd (both_ways (has X v) (get_or_past X v false l) h)) (cases_lt v (length X))
-
-pub nonempty : (n : ℕ) (X : List Bool) (v : ℕ) → length X ≡ n → has X v ≡ true → IsNonempty n X
-nonempty n X v e h =
-    let l : v < length X = has-short X v h in
-    record { long = e; some_in = (v, l, get_or_default X v true false l ∙ h) }
-
 -- a side has a member or none
 pub some_or_none : (X : List Bool) → ((v : ℕ) × (has X v ≡ true)) ⊎ ((v : ℕ) → has X v ≡ false)
 some_or_none [] = inr (λ v. refl)
@@ -108,6 +94,3 @@ some_or_none (false ∷ X) =
     rest : ((v : ℕ) → has X v ≡ false) → (v : ℕ) → has (false ∷ X) v ≡ false
     rest none zero = refl
     rest none (suc v) = none v
-
-pub has_past : (n : ℕ) (f : ℕ → Bool) (k : ℕ) → n ≤ k → has (set_of n f) k ≡ false
-has_past n f k l = get_or_past (set_of n f) k false (rw (length_of n f) l)

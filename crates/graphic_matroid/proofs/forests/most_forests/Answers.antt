@@ -3,7 +3,7 @@ use Rattle.graph_core.specs.Trees.{IsAcyclic}
 use Rattle.matroid_union.specs.Union.{IsUnion}
 use Rattle.graphic_matroid.specs.Chosen.{chosen}
 use Rattle.graphic_matroid.proofs.DualCounts.{most_forests}
-use Rattle.graphic_matroid.proofs.packed.most_forests.Goals as goal
+use Rattle.graphic_matroid.proofs.forests.most_forests.Goals as goal
 
 pub returns : goal.returns
 returns c =

@@ -1,35 +1,21 @@
--- Sizes of sides.
-use Rattle.std.specs.Prelude.{ℕ, zero, suc, ◌≡◌, ◌+◌, ◌<◌, ◌≤◌, Bool, true, false, List, [], ◌∷◌, length, slice_set, Contains, refl}
-use Rattle.std.proofs.Common.{sym, ap, ◌∙◌, inl, inr, arith}
-use Rattle.std.proofs.lemmas.Bool.{cases_lt, cases_eq}
-use Rattle.std.proofs.lemmas.List.{get_or_past, get_or-set_same, get_or-set_other}
-use Rattle.std.proofs.lemmas.List.Sums.{sum_by-cons}
+-- A side with one node more, and sides that lack nodes.
+use Rattle.std.specs.Prelude.{ℕ, zero, suc, ◌≡◌, ◌+◌, ◌<◌, Bool, true, false, List, [], ◌∷◌, length, slice_set, refl}
+use Rattle.std.proofs.Common.{ap, ◌∙◌, inl, inr, arith}
+use Rattle.std.proofs.lemmas.Bool.{cases_eq}
+use Rattle.std.proofs.lemmas.List.{get_or-set_same, get_or-set_other}
+use Rattle.std.proofs.lemmas.List.Sums.{sum_by-cons, count_by-le-length}
 use Rattle.graph_core.specs.Side.{has, size}
 use Rattle.graph_core.proofs.Counting.{weight}
-
-pub has_within : (X : List Bool) (v : ℕ) → has X v ≡ true → v < length X
-has_within X v h =
-    elim (cases_lt v (length X)) [
-      | inl l ↦ l
-      | inr past ↦ absurd (cc (get_or_past X v false past, h))
-    ]
+use Rattle.graph_core.proofs.SideLaws.{has-below}
 
 size-cons : (x : Bool) (X : List Bool) → size (x ∷ X) ≡ weight x + size X
 size-cons x X = sum_by-cons weight x X
-
-weight_le : (z x : Bool) → (z ≡ true → x ≡ true) → weight z ≤ weight x
-weight_le false x h = omega arith
-weight_le true x h = rw (h refl) (omega arith)
 
 -- one node more
 pub size-put : (X : List Bool) (v : ℕ) → v < length X → has X v ≡ false → size (slice_set X v true) ≡ size X + 1
 size-put [] v l out = absurd (omega arith)
 size-put (x ∷ X) zero l out = omega (arith, size-cons true X, size-cons x X, ap weight out)
 size-put (x ∷ X) (suc v) l out = omega (arith, size-cons x (slice_set X v true), size-cons x X, size-put X v (omega arith) out)
-
-pub size-le-length : (X : List Bool) → size X ≤ length X
-size-le-length [] = omega arith
-size-le-length (x ∷ X) = omega (arith, size-cons x X, weight_le x true (λ h. refl), size-le-length X)
 
 -- a side that lacks nodes lacks one
 pub some_missing : (X : List Bool) → size X < length X → (v : ℕ) × (v < length X) × (has X v ≡ false)
@@ -41,7 +27,7 @@ some_missing (true ∷ X) h =
 -- one that lacks none has each
 pub all_there : (X : List Bool) → size X ≡ length X → (v : ℕ) → v < length X → has X v ≡ true
 all_there [] e v l = absurd (omega arith)
-all_there (false ∷ X) e v l = absurd (omega (arith, size-cons false X, size-le-length X))
+all_there (false ∷ X) e v l = absurd (omega (arith, size-cons false X, count_by-le-length (λ b. b) X))
 all_there (true ∷ X) e zero l = refl
 all_there (true ∷ X) e (suc v) l = all_there X (omega (arith, size-cons true X)) v (omega arith)
 
@@ -51,6 +37,6 @@ put_here X v l = get_or-set_same X v true false l
 pub put_kept : (X : List Bool) (v u : ℕ) → has X u ≡ true → has (slice_set X v true) u ≡ true
 put_kept X v u h =
     elim (cases_eq u v) [
-      | inl e ↦ rw e (put_here X v (rw e at (has_within X u h)))
+      | inl e ↦ rw e (put_here X v (rw e at (has-below X u h)))
       | inr ne ↦ get_or-set_other X v u true false ne ∙ h
     ]
