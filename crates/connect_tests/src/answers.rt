@@ -28,7 +28,7 @@ const WHOLE: [(&str, &[u8], &[u8], u8); 35] = [
     ),
     ("trial flow 40 7", b"", b"words 1\n", 3),
     // The first fault of the graph text.
-    ("flow a b", b"", b"graph 1 header\n", 4),
+    ("forests", b"", b"graph 1 header\n", 4),
     ("forests", b"# nothing\n\n", b"graph 3 header\n", 4),
     (
         "forests",
