@@ -3,7 +3,7 @@ use Rattle.std.proofs.Common.{ℕ, ◌<◌, Bool, List, length, get_or, Option, 
 use Rattle.matroid_union.specs.Matroid.{IsAlike}
 use Rattle.matroid_union.specs.Sets.{set_of, plus, swap}
 use Rattle.matroid_union.specs.Parts.{part, kept, IsPacking, Entered, Tree, End}
-use Rattle.matroid_union.specs.Search.{IsFull, AreDead, IsSearch}
+use Rattle.matroid_union.specs.Search.{IsShut, IsFull, AreDead, IsSearch}
 
 pub alike_refl : (n : ℕ) (free : List Bool → Type 0) → IsAlike n free n free
 alike_refl n free = record { count = refl; forth = λ X w. w; back = λ X w. w }
@@ -47,6 +47,9 @@ module _ (n : ℕ) (free : List Bool → Type 0) (n' : ℕ) (free' : List Bool �
       joins = alike_set (plus (part own p) (q j)) w.joins;
       first = λ i r l lr out. alike_not (plus (part own r) (q i)) (w.first i r l lr out);
     }
+
+    pub shut_alike : (x : ℕ) → IsShut n free k own x → IsShut n' free' k own x
+    shut_alike x w = λ p l out. alike_not (plus (part own p) x) (w p l out)
 
     pub kept_alike : (reached : List Bool) (p x : ℕ) → (free (set_of n (plus (kept own reached p n) x)) → ⊥) → free' (set_of n' (plus (kept own reached p n') x)) → ⊥
     kept_alike reached p x h = alike_not (plus (kept own reached p n') x) (subst (λ c. free (set_of n (plus (kept own reached p c) x)) → ⊥) a.count h)

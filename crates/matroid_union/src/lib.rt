@@ -1,6 +1,7 @@
 //! Disjoint free sets of a matroid, by matroid union.
 #![tactic(auto)]
 
+mod ends;
 mod exchange;
 mod greedy;
 mod matroid;
