@@ -1,6 +1,6 @@
 -- Facts move between matroids with the same free sets.
 use Rattle.std.proofs.Common.{ℕ, ◌<◌, Bool, List, length, get_or, Option, sym, refl, ◌∙◌, subst}
-use Rattle.matroid_union.specs.Matroid.{IsAlike}
+use Rattle.matroid_union.specs.Matroid.{IsAlike, IsRank}
 use Rattle.matroid_union.specs.Sets.{set_of, plus, swap}
 use Rattle.matroid_union.specs.Parts.{part, kept, IsPacking, Entered, Tree, End}
 use Rattle.matroid_union.specs.Search.{IsShut, IsFull, AreDead, IsSearch}
@@ -14,6 +14,15 @@ module _ (n : ℕ) (free : List Bool → Type 0) (n' : ℕ) (free' : List Bool �
 
   pub alike_trans : (n'' : ℕ) (free'' : List Bool → Type 0) → IsAlike n free n' free' → IsAlike n' free' n'' free'' → IsAlike n free n'' free''
   alike_trans n'' free'' a b = record { count = a.count ∙ b.count; forth = λ X w. b.forth X (a.forth X w); back = λ X w. a.back X (b.back X w) }
+
+  pub rank_alike : IsAlike n free n' free' → (r : ℕ) → IsRank n free r → IsRank n' free' r
+  rank_alike a r w = record {
+    base = w.base;
+    long = w.long ∙ a.count;
+    stays = a.forth w.base w.stays;
+    members = w.members;
+    most = λ X l f. w.most X (l ∙ sym a.count) (a.back X f);
+  }
 
   module _ (a : IsAlike n free n' free') (k : ℕ) (own : ℕ → Option ℕ) where
     pub alike_set : (f : ℕ → Bool) → free (set_of n f) → free' (set_of n' f)

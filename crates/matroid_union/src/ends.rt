@@ -1,8 +1,9 @@
-ghost use Rattle.std.specs.Prelude.{◌≡◌, ◌↔◌, ◌^◌, ℕ, ◌<◌, length, IsTrue, IfSome, None, false, slice_index};
+ghost use Rattle.std.specs.Prelude.{◌≡◌, ◌↔◌, ◌^◌, ℕ, ◌<◌, length, IsTrue, IfSome, None, true, false, slice_index};
+ghost use Rattle.graph_core.specs.Side.{has};
 ghost use Rattle.matroid_union.specs.Matroid.{IsAlike};
 ghost use Rattle.matroid_union.specs.Sets.{set_of, plus};
 ghost use Rattle.matroid_union.specs.Parts.{own_of, part, End};
-ghost use Rattle.matroid_union.specs.Search.{IsShut};
+ghost use Rattle.matroid_union.specs.Search.{IsShut, IsClosed};
 
 use crate::matroid::Matroid;
 use crate::packing::{can_take, is_part};
@@ -40,18 +41,21 @@ fn can_join<M: Matroid>(
     can_take(matroid, set, owner, reached, number, 0, element)
 }
 
-/// A part that hasn't the element and can take it beside all that it has.
+/// A part that hasn't the element and can take it beside all that it has. The full ones can take none.
 fn other_part_for<M: Matroid>(
     matroid: &mut M,
     set: &mut Marks,
     owner: &[Option<u32>],
     reached: &Marks,
+    full: &Marks,
     element: u32,
     k: u32,
 ) -> Option<u32>
     requires all { length owner.now ≡ M.count matroid.old }
     requires long { length set.old ≡ M.count matroid.old }
     requires marks { length reached.now ≡ M.count matroid.old }
+    requires wide { length full.now ≡ k }
+    requires full { (p : ℕ) → has full.now p ≡ true → IsClosed (M.count matroid.old) (M.free matroid.old) (own_of owner.now) p }
     requires below { element < M.count matroid.old }
     ensures below { IfSome result (λ p. p < k) }
     ensures apart { IfSome result (λ p. part (own_of owner.now) p element ≡ false) }
@@ -61,7 +65,8 @@ fn other_part_for<M: Matroid>(
     ensures same { IsAlike (M.count matroid.old) (M.free matroid.old) (M.count matroid.new) (M.free matroid.new) }
 {
     for number in 0..k {
-        if can_join(matroid, set, owner, reached, number, element) {
+        let tried = !*full.item(number as usize);
+        if tried && can_join(matroid, set, owner, reached, number, element) {
             return Some(number);
         }
     }
@@ -74,6 +79,7 @@ pub(crate) fn first_end<M: Matroid>(
     set: &mut Marks,
     owner: &[Option<u32>],
     reached: &Marks,
+    full: &Marks,
     queue: &[u32],
     tested: usize,
     k: u32,
@@ -81,6 +87,8 @@ pub(crate) fn first_end<M: Matroid>(
     requires all { length owner.now ≡ M.count matroid.old }
     requires long { length set.old ≡ M.count matroid.old }
     requires marks { length reached.now ≡ M.count matroid.old }
+    requires wide { length full.now ≡ k }
+    requires full { (p : ℕ) → has full.now p ≡ true → IsClosed (M.count matroid.old) (M.free matroid.old) (own_of owner.now) p }
     requires below { (i : ℕ) → i < length queue.now → slice_index queue.now i < M.count matroid.old }
     requires shut { (i : ℕ) → i < tested → IsShut (M.count matroid.old) (M.free matroid.old) k (own_of owner.now) (slice_index queue.now i) }
     ensures place { IfSome result (λ end. end.at < length queue.now) }
@@ -90,7 +98,7 @@ pub(crate) fn first_end<M: Matroid>(
     ensures same { IsAlike (M.count matroid.old) (M.free matroid.old) (M.count matroid.new) (M.free matroid.new) }
 {
     for at in tested..queue.len() {
-        if let Some(number) = other_part_for(matroid, set, owner, reached, queue[at], k) {
+        if let Some(number) = other_part_for(matroid, set, owner, reached, full, queue[at], k) {
             return Some(PathEnd { at, number });
         }
     }

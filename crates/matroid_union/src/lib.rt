@@ -3,10 +3,12 @@
 
 mod ends;
 mod exchange;
+mod full;
 mod greedy;
 mod matroid;
 mod packing;
 mod parts;
+mod rank;
 mod search;
 
 pub use matroid::Matroid;

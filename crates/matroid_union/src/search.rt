@@ -3,7 +3,7 @@ ghost use Rattle.graph_core.specs.Side.{has};
 ghost use Rattle.matroid_union.specs.Matroid.{IsAlike};
 ghost use Rattle.matroid_union.specs.Sets.{set_of, plus, swap};
 ghost use Rattle.matroid_union.specs.Parts.{own_of, part, kept, IsPacking, End};
-ghost use Rattle.matroid_union.specs.Search.{IsSearch, IsFull, IsShut, Begins};
+ghost use Rattle.matroid_union.specs.Search.{IsSearch, IsFull, IsShut, IsClosed, Begins};
 
 use crate::ends::{PathEnd, first_end};
 use crate::matroid::Matroid;
@@ -182,6 +182,7 @@ pub(crate) fn find_end<M: Matroid>(
     set: &mut Marks,
     owner: &[Option<u32>],
     search: &mut Search,
+    full: &Marks,
     k: u32,
 ) -> Result<Option<PathEnd>, NoMemory>
     requires all { length owner.now ≡ M.count matroid.old }
@@ -189,6 +190,8 @@ pub(crate) fn find_end<M: Matroid>(
     requires long { length set.old ≡ M.count matroid.old }
     requires packing { IsPacking (M.count matroid.old) (M.free matroid.old) k (own_of owner.now) }
     requires search { IsSearch (M.count matroid.old) (M.free matroid.old) k (own_of owner.now) search.old.dead search.old.reached search.old.queue.items search.old.back.items 0 }
+    requires wide { length full.now ≡ k }
+    requires full { (p : ℕ) → has full.now p ≡ true → IsClosed (M.count matroid.old) (M.free matroid.old) (own_of owner.now) p }
     requires some { 0 < length search.old.queue.items }
     ensures long { length set.new ≡ M.count matroid.old }
     ensures same { IsAlike (M.count matroid.old) (M.free matroid.old) (M.count matroid.new) (M.free matroid.new) }
@@ -207,6 +210,7 @@ pub(crate) fn find_end<M: Matroid>(
             set,
             owner,
             &search.reached,
+            full,
             &search.queue,
             tested,
             k,
