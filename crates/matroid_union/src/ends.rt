@@ -1,4 +1,4 @@
-ghost use Rattle.std.specs.Prelude.{◌≡◌, ◌↔◌, ◌^◌, ℕ, ◌<◌, length, IsTrue, IfSome, None, true, false, slice_index};
+ghost use Rattle.std.specs.Prelude.{◌≡◌, ℕ, ◌<◌, length, IsTrue, IfSome, None, true, false, slice_index};
 ghost use Rattle.graph_core.specs.Side.{has};
 ghost use Rattle.matroid_union.specs.Matroid.{IsAlike};
 ghost use Rattle.matroid_union.specs.Sets.{set_of, plus};
@@ -7,7 +7,7 @@ ghost use Rattle.matroid_union.specs.Search.{IsShut, IsClosed};
 
 use crate::matroid::Matroid;
 use crate::packing::{can_take, is_part};
-use graph_core::{Marks, NoMemory};
+use graph_core::Marks;
 
 /// Where a search ended: the part `number` can take the element at place `at`.
 #[derive(Clone, Copy)]

@@ -1,4 +1,4 @@
-ghost use Rattle.std.specs.Prelude.{◌≡◌, ◌^◌, ℕ, ◌<◌, length, replicate, IfOk, Some};
+ghost use Rattle.std.specs.Prelude.{◌≡◌, ℕ, ◌<◌, length, replicate, IfOk, Some};
 ghost use Rattle.matroid_union.specs.Parts.{own_of, sizes_of, full_of};
 
 use graph_core::{Marks, NoMemory};

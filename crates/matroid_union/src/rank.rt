@@ -1,5 +1,4 @@
 ghost use Rattle.std.specs.Prelude.{◌≡◌, ◌↔◌, ◌<◌, length, replicate, IsTrue, true, false, slice_set};
-ghost use Rattle.graph_core.specs.Side.{has};
 ghost use Rattle.matroid_union.specs.Matroid.{IsAlike, IsRank};
 
 use crate::matroid::Matroid;

@@ -1,8 +1,7 @@
-ghost use Rattle.std.specs.Prelude.{◌≡◌, ◌+◌, ◌++◌, ◌∷◌, [], ℕ, ◌<◌, ◌^◌, List, Bool, length, replicate, IfOk, OnOk, IfSome, None, true, false, slice_set, slice_index};
+ghost use Rattle.std.specs.Prelude.{◌≡◌, ◌+◌, ◌++◌, ◌∷◌, [], ℕ, ◌<◌, ◌^◌, length, replicate, IfOk, OnOk, IfSome, None, true, false, slice_set, slice_index};
 ghost use Rattle.graph_core.specs.Side.{has};
 ghost use Rattle.matroid_union.specs.Matroid.{IsAlike};
-ghost use Rattle.matroid_union.specs.Sets.{set_of, plus, swap};
-ghost use Rattle.matroid_union.specs.Parts.{own_of, part, kept, IsPacking, End};
+ghost use Rattle.matroid_union.specs.Parts.{own_of, IsPacking, End};
 ghost use Rattle.matroid_union.specs.Search.{IsSearch, IsFull, IsShut, IsClosed, Begins};
 
 use crate::ends::{PathEnd, first_end};
