@@ -1,9 +1,9 @@
 -- Facts move between matroids with the same free sets.
 use Rattle.std.proofs.Common.{ℕ, ◌<◌, Bool, List, length, get_or, Option, sym, refl, ◌∙◌, subst}
-use Rattle.matroid_union.specs.Matroid.{IsAlike}
+use Rattle.matroid_union.specs.Matroid.{IsAlike, IsRank}
 use Rattle.matroid_union.specs.Sets.{set_of, plus, swap}
 use Rattle.matroid_union.specs.Parts.{part, kept, IsPacking, Entered, Tree, End}
-use Rattle.matroid_union.specs.Search.{IsFull, AreDead, IsSearch}
+use Rattle.matroid_union.specs.Search.{IsShut, IsFull, AreDead, IsSearch}
 
 pub alike_refl : (n : ℕ) (free : List Bool → Type 0) → IsAlike n free n free
 alike_refl n free = record { count = refl; forth = λ X w. w; back = λ X w. w }
@@ -14,6 +14,15 @@ module _ (n : ℕ) (free : List Bool → Type 0) (n' : ℕ) (free' : List Bool �
 
   pub alike_trans : (n'' : ℕ) (free'' : List Bool → Type 0) → IsAlike n free n' free' → IsAlike n' free' n'' free'' → IsAlike n free n'' free''
   alike_trans n'' free'' a b = record { count = a.count ∙ b.count; forth = λ X w. b.forth X (a.forth X w); back = λ X w. a.back X (b.back X w) }
+
+  pub rank_alike : IsAlike n free n' free' → (r : ℕ) → IsRank n free r → IsRank n' free' r
+  rank_alike a r w = record {
+    base = w.base;
+    long = w.long ∙ a.count;
+    stays = a.forth w.base w.stays;
+    members = w.members;
+    most = λ X l f. w.most X (l ∙ sym a.count) (a.back X f);
+  }
 
   module _ (a : IsAlike n free n' free') (k : ℕ) (own : ℕ → Option ℕ) where
     pub alike_set : (f : ℕ → Bool) → free (set_of n f) → free' (set_of n' f)
@@ -47,6 +56,9 @@ module _ (n : ℕ) (free : List Bool → Type 0) (n' : ℕ) (free' : List Bool �
       joins = alike_set (plus (part own p) (q j)) w.joins;
       first = λ i r l lr out. alike_not (plus (part own r) (q i)) (w.first i r l lr out);
     }
+
+    pub shut_alike : (x : ℕ) → IsShut n free k own x → IsShut n' free' k own x
+    shut_alike x w = λ p l out. alike_not (plus (part own p) x) (w p l out)
 
     pub kept_alike : (reached : List Bool) (p x : ℕ) → (free (set_of n (plus (kept own reached p n) x)) → ⊥) → free' (set_of n' (plus (kept own reached p n') x)) → ⊥
     kept_alike reached p x h = alike_not (plus (kept own reached p n') x) (subst (λ c. free (set_of n (plus (kept own reached p c) x)) → ⊥) a.count h)

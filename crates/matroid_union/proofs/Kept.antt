@@ -34,12 +34,6 @@ module _ (n : ℕ) (free : List Bool → Type 0) (m : IsMatroid n free) (own : �
       (λ i _ h. ⊎_elim (λ a. plus-old (kept own reached p 0) x i (kept-above own reached p 0 i a (omega arith))) (λ e. plus-new (kept own reached p 0) x i e) (plus-cases (part own p) x i h))
       w
 
-  pub kept_less : (a : ℕ) → free (set_of n (plus (part own p) x)) → free (set_of n (plus (kept own reached p a) x))
-  kept_less a w =
-      part_of n free m (plus (kept own reached p a) x) (plus (part own p) x)
-      (λ i _ h. ⊎_elim (λ b. plus-old (part own p) x i (kept-part own reached p a i b)) (λ e. plus-new (part own p) x i e) (plus-cases (kept own reached p a) x i h))
-      w
-
   module _ (a : ℕ) (la : a < n) (lx : x < n) (apart : part own p x ≡ false) (whole : free (set_of n (part own p))) (full : free (set_of n (plus (kept own reached p a) x)) → ⊥) (room : free (set_of n (plus (kept own reached p (a + 1)) x))) where
     -- were element a no matter, full and room would say the same
     matters : (part own p a ≡ true → has reached a ≡ false → ⊥) → ⊥

@@ -7,3 +7,5 @@ pub mod SearchLaws
 pub mod Alike
 pub mod ScanLaws
 pub mod Rows
+pub mod PartSizes
+pub mod Ranks

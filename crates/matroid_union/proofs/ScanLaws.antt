@@ -6,13 +6,14 @@ use Rattle.std.proofs.lemmas.List.Sums.{count_by-le-length}
 use Rattle.graph_core.specs.Side.{has, size}
 use Rattle.matroid_union.specs.Matroid.{IsMatroid}
 use Rattle.matroid_union.specs.Sets.{set_of, plus, swap}
-use Rattle.matroid_union.specs.Parts.{part, kept, End}
-use Rattle.matroid_union.specs.Search.{IsFull, IsSearch}
+use Rattle.matroid_union.specs.Parts.{part, kept}
+use Rattle.matroid_union.specs.Search.{Begins, IsShut, IsFull, IsSearch}
 use Rattle.matroid_union.proofs.Kept.{kept_all}
-use Rattle.matroid_union.proofs.SearchLaws.{mark_old, full_more, search_push, end_found}
+use Rattle.matroid_union.proofs.SearchLaws.{mark_old, full_more, search_push, begins_push}
 
 -- what stands after an element joined the queue
-pub record Step (n : ℕ) (free : List Bool → Type 0) (k : ℕ) (own : ℕ → Option ℕ) (x at : ℕ) (dead' reached reached' : List Bool) (queue' back' : List ℕ) : Type 0 where
+pub record Step (n : ℕ) (free : List Bool → Type 0) (k : ℕ) (own : ℕ → Option ℕ) (x at : ℕ) (dead' reached reached' : List Bool) (queue queue' back' : List ℕ) : Type 0 where
+  pub begins : Begins queue queue'
   pub place : at < length queue'
   pub element : get_or queue' at 0 ≡ x
   pub search : IsSearch n free k own dead' reached' queue' back' at
@@ -26,11 +27,13 @@ module _ (n : ℕ) (free : List Bool → Type 0) (m : IsMatroid n free) (k : ℕ
       let c : size reached ≤ length reached = count_by-le-length (λ x. x) reached in
       omega arith
 
-  pub scan_found : (dead reached : List Bool) (queue back : List ℕ) (at p x : ℕ) → IsSearch n free k own dead reached queue back at → p < k → x ≡ get_or queue at 0 → part own p x ≡ false → free (set_of n (plus (kept own reached p 0) x)) → End n free k own (λ j. get_or queue j 0) at p
-  scan_found dead reached queue back at p x s lp e out w =
-      let out' : part own p (get_or queue at 0) ≡ false = ap (part own p) (sym e) ∙ out in
-      let w' : free (set_of n (plus (kept own reached p 0) (get_or queue at 0))) = subst (λ y. free (set_of n (plus (kept own reached p 0) y))) e w in
-      end_found n free m k own dead reached queue back at p s lp out' (kept_all n free m own reached p (get_or queue at 0) w')
+  -- a part that can't take x beside all its elements
+  pub shut_kept : (reached : List Bool) (p x : ℕ) → IsShut n free k own x → p < k → part own p x ≡ false → free (set_of n (plus (kept own reached p 0) x)) → ⊥
+  shut_kept reached p x s lp out w = s p lp out (kept_all n free m own reached p x w)
+
+  -- in a queue that begins with an older one
+  pub shut_still : (older newer : List ℕ) (i : ℕ) → Begins older newer → i < length older → IsShut n free k own (get_or older i 0) → IsShut n free k own (get_or newer i 0)
+  shut_still older newer i b l = subst (IsShut n free k own) (sym (b.same i l))
 
   pub full_one_more : (reached : List Bool) (p x : ℕ) → IsFull n free p own reached x → (free (set_of n (plus (kept own reached p n) x)) → ⊥) → IsFull n free (p + 1) own reached x
   full_one_more reached p x below here = λ r l out w.
@@ -63,5 +66,5 @@ module _ (n : ℕ) (free : List Bool → Type 0) (m : IsMatroid n free) (k : ℕ
         let more = full_more n free m k own reached (set reached y true) q x (mark_old reached y y_in fresh) (w q lq out) in
         subst (λ z. free (set_of n (plus (kept own z q n) x)) → ⊥) (sym new_reached) more
 
-    pub reach_step : Step n free k own x at dead' reached reached' queue' back'
-    reach_step = record { place = reach_place; element = reach_element; search = reach_search; full = reach_full }
+    pub reach_step : Step n free k own x at dead' reached reached' queue queue' back'
+    reach_step = record { begins = subst (Begins queue) (sym new_queue) (begins_push queue y); place = reach_place; element = reach_element; search = reach_search; full = reach_full }

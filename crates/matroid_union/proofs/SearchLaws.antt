@@ -6,11 +6,11 @@ use Rattle.std.proofs.lemmas.List.Sums.{sum_by-set}
 use Rattle.graph_core.specs.Side.{has, size}
 use Rattle.matroid_union.specs.Matroid.{IsMatroid}
 use Rattle.matroid_union.specs.Sets.{set_of, plus, swap}
-use Rattle.matroid_union.specs.Parts.{holds, part, kept, Entered, Tree, End}
-use Rattle.matroid_union.specs.Search.{IsFull, AreDead, IsSearch}
+use Rattle.matroid_union.specs.Parts.{holds, part, kept, Entered, Tree}
+use Rattle.matroid_union.specs.Search.{Begins, IsFull, AreDead, IsSearch}
 use Rattle.matroid_union.proofs.Members.{plus-old, plus-new, plus-cases, swap-old, swap-new}
 use Rattle.matroid_union.proofs.Exchanges.{part_of}
-use Rattle.matroid_union.proofs.Kept.{kept-part, kept-cases, kept-reached, kept_less}
+use Rattle.matroid_union.proofs.Kept.{kept-part, kept-cases, kept-reached}
 use Rattle.matroid_union.proofs.Chain.{holds_is}
 
 abbrev weight : Bool → ℕ
@@ -32,6 +32,18 @@ module _ (reached : List Bool) (y : ℕ) (ly : y < length reached) (fresh : has 
 
   pub mark_cases : (i : ℕ) → has (set reached y true) i ≡ true → (has reached i ≡ true) ⊎ (i ≡ y)
   mark_cases i h = ⊎_elim (λ e. inr e) (λ ne. inl (sym (get_or-set_other reached y i true false ne) ∙ h)) (cases_eq i y)
+
+pub begins_refl : (q : List ℕ) → Begins q q
+begins_refl q = record { longer = omega arith; same = λ i l. refl }
+
+pub begins_trans : (a b c : List ℕ) → Begins a b → Begins b c → Begins a c
+begins_trans a b c v w =
+    let first = v.longer in
+    let next = w.longer in
+    record { longer = omega arith; same = λ i l. w.same i (omega arith) ∙ v.same i l }
+
+pub begins_push : (q : List ℕ) (y : ℕ) → Begins q (q ++ y ∷ [])
+begins_push q y = record { longer = (let e = length_push q y in omega arith); same = λ i l. get_or_append_left q (y ∷ []) 0 i l }
 
 module _ (n : ℕ) (free : List Bool → Type 0) (m : IsMatroid n free) (k : ℕ) (own : ℕ → Option ℕ) where
   -- a larger reached set leaves full what was full
@@ -167,15 +179,6 @@ module _ (n : ℕ) (free : List Bool → Type 0) (m : IsMatroid n free) (k : ℕ
     inside = λ j h. t.inside j (omega arith);
     distinct = λ i j li lj. t.distinct i j li (omega arith);
     entered = λ j p h. t.entered j p (omega arith);
-  }
-
-  -- the first end
-  pub end_found : (dead reached : List Bool) (queue back : List ℕ) (at p : ℕ) → IsSearch n free k own dead reached queue back at → p < k → part own p (get_or queue at 0) ≡ false → free (set_of n (plus (part own p) (get_or queue at 0))) → End n free k own (λ j. get_or queue j 0) at p
-  end_found dead reached queue back at p s lp apart joins = record {
-    below = lp;
-    apart = apart;
-    joins = joins;
-    first = λ i r li lr out w. s.full i li r lr out (kept_less n free m own reached r (get_or queue i 0) n w);
   }
 
   -- one place more was looked at

@@ -1,5 +1,5 @@
 -- A search from an element that no part has.
-use Rattle.std.specs.Prelude.{◌≡◌, ◌⊎◌, ◌+◌, ℕ, ◌<◌, Bool, true, false, List, length, slice_index, Option}
+use Rattle.std.specs.Prelude.{◌≡◌, ◌⊎◌, ◌+◌, ℕ, ◌<◌, ◌≤◌, Bool, true, false, List, length, slice_index, Option}
 use Rattle.graph_core.specs.Side.{has, size}
 use Rattle.matroid_union.specs.Sets.{set_of, plus}
 use Rattle.matroid_union.specs.Parts.{part, kept, Tree}
@@ -9,6 +9,19 @@ pub record Place (queue : List ℕ) (e : ℕ) : Type 0 where
   pub at : ℕ
   pub below : at < length queue
   pub is : slice_index queue at ≡ e
+
+-- a queue that begins with an older one
+pub record Begins (older newer : List ℕ) : Type 0 where
+  pub longer : length older ≤ length newer
+  pub same : (i : ℕ) → i < length older → slice_index newer i ≡ slice_index older i
+
+-- no part below k that hasn't x can take it beside all its elements
+abbrev pub IsShut : ℕ → (List Bool → Type 0) → ℕ → (ℕ → Option ℕ) → ℕ → Type 0
+IsShut n free k own x = (p : ℕ) → p < k → part own p x ≡ false → free (set_of n (plus (part own p) x)) → ⊥
+
+-- part p can take no element below n that it hasn't
+abbrev pub IsClosed : ℕ → (List Bool → Type 0) → (ℕ → Option ℕ) → ℕ → Type 0
+IsClosed n free own p = (x : ℕ) → x < n → part own p x ≡ false → free (set_of n (plus (part own p) x)) → ⊥
 
 -- no part below k can take x beside its reached elements
 abbrev pub IsFull : ℕ → (List Bool → Type 0) → ℕ → (ℕ → Option ℕ) → List Bool → ℕ → Type 0

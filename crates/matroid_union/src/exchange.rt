@@ -3,8 +3,9 @@ ghost use Rattle.graph_core.specs.Side.{has};
 ghost use Rattle.matroid_union.specs.Parts.{own_of, spare, IsPacking, End};
 ghost use Rattle.matroid_union.specs.Search.{IsSearch};
 
+use crate::ends::PathEnd;
 use crate::matroid::Matroid;
-use crate::search::{PathEnd, Search};
+use crate::search::Search;
 
 /// Lets each element of the path take the place of the next, and the last one join the part at the end.
 pub(crate) fn exchange<M: Matroid>(

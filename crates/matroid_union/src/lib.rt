@@ -1,11 +1,14 @@
 //! Disjoint free sets of a matroid, by matroid union.
 #![tactic(auto)]
 
+mod ends;
 mod exchange;
+mod full;
 mod greedy;
 mod matroid;
 mod packing;
 mod parts;
+mod rank;
 mod search;
 
 pub use matroid::Matroid;

@@ -1,13 +1,15 @@
 ghost use Rattle.std.specs.Prelude.{◌≡◌, ◌^◌, ℕ, ◌<◌, List, length, replicate, IfOk, OnOk, IfSome, Some, None, true, false, []};
 ghost use Rattle.graph_core.specs.Side.{has};
-ghost use Rattle.matroid_union.specs.Matroid.{IsAlike};
+ghost use Rattle.matroid_union.specs.Matroid.{IsAlike, IsRank};
 ghost use Rattle.matroid_union.specs.Parts.{own_of, rows_of, IsPacking};
 ghost use Rattle.matroid_union.specs.Search.{AreDead};
 ghost use Rattle.matroid_union.specs.Union.{IsUnion};
 
 use crate::exchange::exchange;
+use crate::full::full_parts;
 use crate::greedy::take_freely;
 use crate::matroid::Matroid;
+use crate::rank::rank;
 use crate::search::{Search, blank, find_end};
 use graph_core::{Marks, NoMemory, NumberRows, Numbers};
 use std::alloc::Global;
@@ -48,8 +50,9 @@ fn pack<M: Matroid>(
 {
     let mut set = blank(alloc, owner.len())?;
     let mut search = Search::new(alloc, owner.len())?;
+    let most = rank(matroid, &mut set);
     take_freely(matroid, &mut set, owner, &search.reached, k);
-    grow(matroid, &mut set, owner, &mut search, k)?;
+    grow(alloc, matroid, &mut set, owner, &mut search, most, k)?;
     let Search {
         dead,
         reached: _,
@@ -61,16 +64,19 @@ fn pack<M: Matroid>(
 
 /// Searches from each element that no part has, until it is in a part or dead.
 fn grow<M: Matroid>(
+    alloc: Global,
     matroid: &mut M,
     set: &mut Marks,
     owner: &mut [Option<u32>],
     search: &mut Search,
+    most: usize,
     k: u32,
 ) -> Result<(), NoMemory>
     requires all { length owner.old ≡ M.count matroid.old }
     requires few { M.count matroid.old < 2 ^ 32 }
     requires long { length set.old ≡ M.count matroid.old }
     requires packing { IsPacking (M.count matroid.old) (M.free matroid.old) k (own_of owner.old) }
+    requires most { IsRank (M.count matroid.old) (M.free matroid.old) most }
     requires reached { length search.old.reached ≡ M.count matroid.old }
     requires dead { AreDead (M.count matroid.old) (M.free matroid.old) k (own_of owner.old) search.old.dead }
     ensures packing { OnOk result (IsPacking (M.count matroid.old) (M.free matroid.old) k (own_of owner.new)) }
@@ -80,7 +86,8 @@ fn grow<M: Matroid>(
 {
     'grow: while let Some(element) = next_root(owner, &search.dead) {
         search.restart(element as u32)?;
-        match find_end(matroid, set, owner, search, k)? {
+        let full = full_parts(alloc, owner, most, k)?;
+        match find_end(matroid, set, owner, search, &full, k)? {
             Some(end) => exchange(matroid, owner, search, end, k),
             None => search.settle(),
         }

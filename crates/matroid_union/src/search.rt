@@ -1,10 +1,10 @@
-ghost use Rattle.std.specs.Prelude.{◌≡◌, ◌+◌, ◌++◌, ◌∷◌, [], ℕ, ◌<◌, ◌^◌, List, Bool, length, replicate, IsTrue, IfOk, OnOk, IfSome, None, true, false, slice_set, slice_index};
+ghost use Rattle.std.specs.Prelude.{◌≡◌, ◌+◌, ◌++◌, ◌∷◌, [], ℕ, ◌<◌, ◌^◌, length, replicate, IfOk, OnOk, IfSome, None, true, false, slice_set, slice_index};
 ghost use Rattle.graph_core.specs.Side.{has};
 ghost use Rattle.matroid_union.specs.Matroid.{IsAlike};
-ghost use Rattle.matroid_union.specs.Sets.{set_of, plus, swap};
-ghost use Rattle.matroid_union.specs.Parts.{own_of, part, kept, IsPacking, End};
-ghost use Rattle.matroid_union.specs.Search.{IsSearch, IsFull};
+ghost use Rattle.matroid_union.specs.Parts.{own_of, IsPacking, End};
+ghost use Rattle.matroid_union.specs.Search.{IsSearch, IsFull, IsShut, IsClosed, Begins};
 
+use crate::ends::{PathEnd, first_end};
 use crate::matroid::Matroid;
 use crate::packing::{can_take, find_place, is_part};
 use graph_core::{Marks, NoMemory};
@@ -101,7 +101,7 @@ fn copy_marks(to: &mut Marks, from: &Marks)
     }
 }
 
-/// Looks whether the part can take the element at place `at`, and reaches each element of the part that it can give for it.
+/// Reaches each element of the part that it can give for the one at place `at`.
 fn scan_part<M: Matroid>(
     matroid: &mut M,
     set: &mut Marks,
@@ -110,7 +110,7 @@ fn scan_part<M: Matroid>(
     at: usize,
     number: u32,
     k: u32,
-) -> Result<bool, NoMemory>
+) -> Result<(), NoMemory>
     requires all { length owner.now ≡ M.count matroid.old }
     requires few { M.count matroid.old < 2 ^ 32 }
     requires long { length set.old ≡ M.count matroid.old }
@@ -118,18 +118,18 @@ fn scan_part<M: Matroid>(
     requires place { at < length search.old.queue.items }
     requires packing { IsPacking (M.count matroid.old) (M.free matroid.old) k (own_of owner.now) }
     requires search { IsSearch (M.count matroid.old) (M.free matroid.old) k (own_of owner.now) search.old.dead search.old.reached search.old.queue.items search.old.back.items at }
+    requires shut { IsShut (M.count matroid.old) (M.free matroid.old) k (own_of owner.now) (slice_index search.old.queue.items at) }
     requires passed { IsFull (M.count matroid.old) (M.free matroid.old) number (own_of owner.now) search.old.reached (slice_index search.old.queue.items at) }
     ensures long { length set.new ≡ M.count matroid.old }
     ensures same { IsAlike (M.count matroid.old) (M.free matroid.old) (M.count matroid.new) (M.free matroid.new) }
     ensures dead { search.new.dead ≡ search.old.dead }
-    ensures place { OnOk result (at < length search.new.queue.items) }
+    ensures begins { OnOk result (Begins search.old.queue.items search.new.queue.items) }
     ensures search { OnOk result (IsSearch (M.count matroid.old) (M.free matroid.old) k (own_of owner.now) search.new.dead search.new.reached search.new.queue.items search.new.back.items at) }
-    ensures found { IfOk result (λ found. IsTrue found → End (M.count matroid.old) (M.free matroid.old) k (own_of owner.now) (slice_index search.new.queue.items) at number) }
-    ensures passed { IfOk result (λ found. found ≡ false → IsFull (M.count matroid.old) (M.free matroid.old) (number + 1) (own_of owner.now) search.new.reached (slice_index search.new.queue.items at)) }
+    ensures passed { OnOk result (IsFull (M.count matroid.old) (M.free matroid.old) (number + 1) (own_of owner.now) search.new.reached (slice_index search.new.queue.items at)) }
 {
     let element = search.queue[at];
     if is_part(owner[element as usize], number) {
-        return Ok(false);
+        return Ok(());
     }
     'reach: while can_take(
         matroid,
@@ -140,23 +140,13 @@ fn scan_part<M: Matroid>(
         owner.len(),
         element,
     ) {
-        if can_take(matroid, set, owner, &search.reached, number, 0, element) {
-            return Ok(true);
-        }
         let place = find_place(matroid, set, owner, &search.reached, number, element);
         search.reach(place as u32, at)?;
     }
-    Ok(false)
+    Ok(())
 }
 
-/// Where a search ended: the part `number` can take the element at place `at`.
-#[derive(Clone, Copy)]
-pub(crate) struct PathEnd {
-    pub(crate) at: usize,
-    pub(crate) number: u32,
-}
-
-/// Looks at each part for the element at place `at`.
+/// Reaches each element that a part can give for the one at place `at`.
 fn scan_element<M: Matroid>(
     matroid: &mut M,
     set: &mut Marks,
@@ -164,35 +154,34 @@ fn scan_element<M: Matroid>(
     search: &mut Search,
     at: usize,
     k: u32,
-) -> Result<Option<u32>, NoMemory>
+) -> Result<(), NoMemory>
     requires all { length owner.now ≡ M.count matroid.old }
     requires few { M.count matroid.old < 2 ^ 32 }
     requires long { length set.old ≡ M.count matroid.old }
     requires place { at < length search.old.queue.items }
     requires packing { IsPacking (M.count matroid.old) (M.free matroid.old) k (own_of owner.now) }
     requires search { IsSearch (M.count matroid.old) (M.free matroid.old) k (own_of owner.now) search.old.dead search.old.reached search.old.queue.items search.old.back.items at }
+    requires shut { IsShut (M.count matroid.old) (M.free matroid.old) k (own_of owner.now) (slice_index search.old.queue.items at) }
     ensures long { length set.new ≡ M.count matroid.old }
     ensures same { IsAlike (M.count matroid.old) (M.free matroid.old) (M.count matroid.new) (M.free matroid.new) }
     ensures dead { search.new.dead ≡ search.old.dead }
-    ensures place { OnOk result (at < length search.new.queue.items) }
-    ensures search { OnOk result (IsSearch (M.count matroid.old) (M.free matroid.old) k (own_of owner.now) search.new.dead search.new.reached search.new.queue.items search.new.back.items at) }
-    ensures found { IfOk result (λ found. IfSome found (End (M.count matroid.old) (M.free matroid.old) k (own_of owner.now) (slice_index search.new.queue.items) at)) }
-    ensures full { IfOk result (λ found. found ≡ None → IsFull (M.count matroid.old) (M.free matroid.old) k (own_of owner.now) search.new.reached (slice_index search.new.queue.items at)) }
+    ensures begins { OnOk result (Begins search.old.queue.items search.new.queue.items) }
+    ensures search { OnOk result (IsSearch (M.count matroid.old) (M.free matroid.old) k (own_of owner.now) search.new.dead search.new.reached search.new.queue.items search.new.back.items (at + 1)) }
 {
     for number in 0..k {
-        if scan_part(matroid, set, owner, search, at, number, k)? {
-            return Ok(Some(number));
-        }
+        scan_part(matroid, set, owner, search, at, number, k)?;
     }
-    Ok(None)
+    Ok(())
 }
 
-/// Searches until a part can take an element beside what it has.
+/// Searches until a part can take an element beside what it has. Each element is tested for that
+/// before any is looked at for what it could reach.
 pub(crate) fn find_end<M: Matroid>(
     matroid: &mut M,
     set: &mut Marks,
     owner: &[Option<u32>],
     search: &mut Search,
+    full: &Marks,
     k: u32,
 ) -> Result<Option<PathEnd>, NoMemory>
     requires all { length owner.now ≡ M.count matroid.old }
@@ -200,6 +189,8 @@ pub(crate) fn find_end<M: Matroid>(
     requires long { length set.old ≡ M.count matroid.old }
     requires packing { IsPacking (M.count matroid.old) (M.free matroid.old) k (own_of owner.now) }
     requires search { IsSearch (M.count matroid.old) (M.free matroid.old) k (own_of owner.now) search.old.dead search.old.reached search.old.queue.items search.old.back.items 0 }
+    requires wide { length full.now ≡ k }
+    requires full { (p : ℕ) → has full.now p ≡ true → IsClosed (M.count matroid.old) (M.free matroid.old) (own_of owner.now) p }
     requires some { 0 < length search.old.queue.items }
     ensures long { length set.new ≡ M.count matroid.old }
     ensures same { IsAlike (M.count matroid.old) (M.free matroid.old) (M.count matroid.new) (M.free matroid.new) }
@@ -211,11 +202,25 @@ pub(crate) fn find_end<M: Matroid>(
     ensures stuck { IfOk result (λ found. found ≡ None → IsSearch (M.count matroid.old) (M.free matroid.old) k (own_of owner.now) search.new.dead search.new.reached search.new.queue.items search.new.back.items (length search.new.queue.items)) }
 {
     let mut at: usize = 0;
-    'places: while at < search.queue.len() {
-        if let Some(number) = scan_element(matroid, set, owner, search, at, k)? {
-            return Ok(Some(PathEnd { at, number }));
+    let mut tested: usize = 0;
+    'places: loop {
+        if let Some(end) = first_end(
+            matroid,
+            set,
+            owner,
+            &search.reached,
+            full,
+            &search.queue,
+            tested,
+            k,
+        ) {
+            return Ok(Some(end));
         }
+        if at == search.queue.len() {
+            return Ok(None);
+        }
+        tested = search.queue.len();
+        scan_element(matroid, set, owner, search, at, k)?;
         at += 1;
     }
-    Ok(None)
 }

@@ -1,13 +1,14 @@
 use Rattle.std.proofs.Common.{◌≡◌, ◌<◌, ◌-◌, get_or, length}
 use Rattle.matroid_union.specs.Matroid.{IsAlike}
 use Rattle.matroid_union.specs.Parts.{own_of}
-use Rattle.matroid_union.specs.Search.{IsSearch, IsFull}
+use Rattle.matroid_union.specs.Search.{IsSearch, IsFull, Begins}
 use Rattle.matroid_union.proofs.search.scan_part.Given as goal
 
 abbrev pub invariant-reach : goal.invariant-reach
 invariant-reach g l = record {
   long : length l.set ≡ g.M.Matroid.count l.fn.matroid;
   same : IsAlike (g.M.Matroid.count l.fn.matroid) (g.M.Matroid.free l.fn.matroid) (g.M.Matroid.count l.matroid) (g.M.Matroid.free l.matroid);
+  begins : Begins l.initial.search.queue.items l.search.queue.items;
   place : l.at < length l.search.queue.items;
   element : get_or l.search.queue.items l.at 0 ≡ l.element;
   search : IsSearch (g.M.Matroid.count l.fn.matroid) (g.M.Matroid.free l.fn.matroid) l.k (own_of l.owner) l.search.dead l.search.reached l.search.queue.items l.search.back.items l.at;
