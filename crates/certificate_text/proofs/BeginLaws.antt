@@ -136,7 +136,7 @@ fillable g ask.Forests is = (
 fillable g (ask.Orient k) is = (
   record {
     can = turned_can g 0 (length g.lines) (Must form.End 0 ∷ []) (refl, tt);
-    valid = turned_valid g 0 (length g.lines) (Must form.End 0 ∷ []) is.ends (omega arith) (tt, tt);
+    valid = turned_valid g 0 (length g.lines) (Must form.End 0 ∷ []) is.makes.ends (omega arith) (tt, tt);
   },
   (record { can = (refl, (refl, (refl, (refl, tt)))); valid = (tt, (tt, (empty_long _, (tt, tt)))) }, tt),
 )

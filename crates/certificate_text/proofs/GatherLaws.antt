@@ -90,7 +90,7 @@ body-back g ask.Forests (body.Parts value rows parts.Nothing) is belongs range =
 body-back g (ask.Orient k) (body.Turned heads) is belongs range =
     ap (λ l. body_of g (ask.Orient k) (gather nothing (l ++ line.End ∷ []))) (turned_arcs g.lines heads)
     ∙ ap (body_of g (ask.Orient k)) (gather_arcs nothing (turned_pairs g.lines heads) (line.End ∷ []))
-    ∙ ap body.Turned (heads-back (length g.names) g.lines heads is.ends range)
+    ∙ ap body.Turned (heads-back (length g.names) g.lines heads is.makes.ends range)
 body-back g (ask.Orient k) (body.Never side) is belongs range = refl
 body-back g ask.Dijoin (body.Join value numbers sides) is belongs range = ap (body_of g ask.Dijoin) (gather_sets (record nothing { value = value; rows = numbers ∷ []; kind = kind.Dicuts }) sides (line.End ∷ []))
 body-back g ask.Dijoin (body.Never side) is belongs range = refl

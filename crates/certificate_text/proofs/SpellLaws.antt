@@ -66,8 +66,8 @@ root-node g r e = below _ r (none-right (nat_le (length g.names) r) _ _ (none-ri
 name-same : (g : GraphValue) (u v : ℕ) → IsGraph g → u < length g.names → v < length g.names → name_of g u ≡ name_of g v → u ≡ v
 name-same g u v is a b e =
     elim (cases_lt u v) [
-      | inl l ↦ absurd (is.distinct u v [] l b e)
-      | inr m ↦ elim (cases_lt v u) [ inl l ↦ absurd (is.distinct v u [] l a (sym e)) | inr k ↦ omega arith ]
+      | inl l ↦ absurd (is.makes.distinct u v [] l b e)
+      | inr m ↦ elim (cases_lt v u) [ inl l ↦ absurd (is.makes.distinct v u [] l a (sym e)) | inr k ↦ omega arith ]
     ]
 
 pub first-in : (names : List (List ℕ)) (X : List Bool) (name : List ℕ) (more : List (List ℕ)) → names_in names X ≡ name ∷ more → (j : ℕ) × (j < length names) × (get_or names j [] ≡ name)
@@ -177,9 +177,9 @@ words-same g line.Title line.Title is a b e = refl
 words-same g (line.Command x) (line.Command y) is a b e = ap line.Command (ask-same g x y is a.0 (names-nodes g x a.1) b.0 (names-nodes g y b.1) (behind _ _ _ _ e))
 words-same g (line.Value m) (line.Value n) is a b e = ap line.Value (decimal_injective m n a b (second _ _ _ _ _ _ e))
 words-same g line.Impossible line.Impossible is a b e = refl
-words-same g (line.Path x) (line.Path y) is a b e = ap line.Path (numbers-same _ x y is.few a b (behind _ _ _ _ e))
-words-same g (line.Part x) (line.Part y) is a b e = ap line.Part (numbers-same _ x y is.few a b (behind _ _ _ _ e))
-words-same g (line.Join x) (line.Join y) is a b e = ap line.Join (numbers-same _ x y is.few a b (behind _ _ _ _ e))
+words-same g (line.Path x) (line.Path y) is a b e = ap line.Path (numbers-same _ x y is.makes.few a b (behind _ _ _ _ e))
+words-same g (line.Part x) (line.Part y) is a b e = ap line.Part (numbers-same _ x y is.makes.few a b (behind _ _ _ _ e))
+words-same g (line.Join x) (line.Join y) is a b e = ap line.Join (numbers-same _ x y is.makes.few a b (behind _ _ _ _ e))
 words-same g (line.Tree u v n) (line.Tree x y m) is a b e =
     let p = name-same g u x is a.0 b.0 (second _ _ _ _ _ _ e) in
     let q = name-same g v y is a.1 b.1 (third _ _ _ _ _ _ _ _ e) in
@@ -194,7 +194,7 @@ words-same g (line.Arc u v) (line.Arc x y) is a b e =
     let q = name-same g v y is a.1 b.1 (third _ _ _ _ _ _ _ _ e) in
     λ i. line.Arc (p i) (q i)
 words-same g (line.Dual x) (line.Dual y) is a b e = ap line.Dual (kind-word-same x y (second _ _ _ _ _ _ e))
-words-same g (line.Set X) (line.Set Y) is a b e = ap line.Set (sides-same g.names X Y is.distinct a b (behind _ _ _ _ e))
+words-same g (line.Set X) (line.Set Y) is a b e = ap line.Set (sides-same g.names X Y is.makes.distinct a b (behind _ _ _ _ e))
 words-same g line.End line.End is a b e = refl
 words-same g x y is a b e = absurd (clash (head_word (words g x)) (head_word (words g y)) refl (ap head_word e))
 
@@ -246,9 +246,9 @@ words-plain g line.Title is a = (refl, (refl, tt))
 words-plain g (line.Command x) is a = (refl, ask-plain g x is.named a.0 a.1)
 words-plain g (line.Value n) is a = (refl, (decimal-ink n a, tt))
 words-plain g line.Impossible is a = (refl, tt)
-words-plain g (line.Path js) is a = (refl, numbers-plain _ js is.few a)
-words-plain g (line.Part js) is a = (refl, numbers-plain _ js is.few a)
-words-plain g (line.Join js) is a = (refl, numbers-plain _ js is.few a)
+words-plain g (line.Path js) is a = (refl, numbers-plain _ js is.makes.few a)
+words-plain g (line.Part js) is a = (refl, numbers-plain _ js is.makes.few a)
+words-plain g (line.Join js) is a = (refl, numbers-plain _ js is.makes.few a)
 words-plain g (line.Tree u v n) is a = (refl, (name-plain g u is.named a.0, (name-plain g v is.named a.1, (decimal-ink n a.2, tt))))
 words-plain g (line.Edge u v) is a = (refl, (name-plain g u is.named a.0, (name-plain g v is.named a.1, tt)))
 words-plain g (line.Arc u v) is a = (refl, (name-plain g u is.named a.0, (name-plain g v is.named a.1, tt)))

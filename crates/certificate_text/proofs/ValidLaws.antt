@@ -33,7 +33,7 @@ valid-dual g parts.Nothing long = (tt, (tt, tt))
 
 valid-body : (g : GraphValue) (x : Ask) (b : Body) → IsGraph g → IsInRange (length g.names) (length g.lines) b → NumbersFit b → ValidAll g (body_lines g x b)
 valid-body g x (body.Tree pairs) is range fit = valid-join g (map (λ p. line.Tree p.0 p.1 p.2) pairs) (line.End ∷ []) (valid-map (ℕ × ℕ × ℕ) g (λ p. line.Tree p.0 p.1 p.2) pairs (λ k d l. ((range k d l).0, (range k d l).1, fit k d l))) (tt, tt)
-valid-body g x (body.Turned heads) is range fit = valid-join g (turned_lines g.lines heads) (line.End ∷ []) (valid-turned g g.lines heads is.ends) (tt, tt)
+valid-body g x (body.Turned heads) is range fit = valid-join g (turned_lines g.lines heads) (line.End ∷ []) (valid-turned g g.lines heads is.makes.ends) (tt, tt)
 valid-body g x (body.Walks value rows cut) is range fit = (fit, valid-join g (map line.Path rows) _ (valid-map (List ℕ) g line.Path rows range.0) (tt, (range.1, (tt, tt))))
 valid-body g x (body.Edges value pairs sides) is range fit = (fit, valid-join g (map (λ p. line.Edge p.0 p.1) pairs) _ (valid-map (ℕ × ℕ) g (λ p. line.Edge p.0 p.1) pairs range.0) (tt, valid-sets g sides range.1))
 valid-body g x (body.Arcs value pairs way sides) is range fit = (fit, valid-join g (map (λ p. line.Arc p.0 p.1) pairs) _ (valid-map (ℕ × ℕ) g (λ p. line.Arc p.0 p.1) pairs range.0) (tt, valid-sets g sides range.1))

@@ -26,15 +26,10 @@ pub record MakesGraph (g : GraphValue) : Type 0 where
   pub ends : All (Fits (length g.names)) g.lines
   pub free : g.kind ≡ Undirected → All (λ l. l.fixed ≡ false) g.lines
 
--- what holds of every graph: the same, and that its names are names
+-- what holds of every graph: what makes a graph, and that its names are names
 pub record IsGraph (g : GraphValue) : Type 0 where
-  pub some : 1 ≤ length g.names
-  pub nodes : length g.names ≤ 4096
-  pub few : length g.lines ≤ 65536
+  pub makes : MakesGraph g
   pub named : All IsName g.names
-  pub distinct : AllPairs (λ a b. a ≢ b) g.names
-  pub ends : All (Fits (length g.names)) g.lines
-  pub free : g.kind ≡ Undirected → All (λ l. l.fixed ≡ false) g.lines
 
 -- the size that the solvers and the checker are made for
 pub record IsWithinSize (g : GraphValue) : Type 0 where

@@ -62,17 +62,17 @@ written g graph small = record {
       let long = length-take-le k g.names (omega (arith, l)) in
       let early : j < k = omega (arith, m, long) in
       let same : get_or (take k g.names) j d ≡ get_or g.names j [] = get_or-take k g.names j d early ∙ get_or_default g.names j d [] (omega (arith, early, l)) in
-      other_name (get_or g.names k []) (get_or (take k g.names) j d) (λ e. graph.distinct j k [] early l (sym same ∙ sym e)));
-  some = omega (arith, graph.some);
+      other_name (get_or g.names k []) (get_or (take k g.names) j d) (λ e. graph.makes.distinct j k [] early l (sym same ∙ sym e)));
+  some = omega (arith, graph.makes.some);
   few = small.nodes;
   joined = All-map (Joins g.kind g.names) (ends_in g.names) g.lines (λ k d l.
       let line = get_or g.lines k d in
-      let fits = graph.ends k d l in
+      let fits = graph.makes.ends k d l in
       record {
-        named = record { tail = graph.named line.tail [] fits.tail; head = graph.named line.head [] fits.head; free = λ undirected. graph.free undirected k d l };
+        named = record { tail = graph.named line.tail [] fits.tail; head = graph.named line.head [] fits.head; free = λ undirected. graph.makes.free undirected k d l };
         tail_known = known g.names line.tail fits.tail;
         head_known = known g.names line.head fits.head;
-        apart = other_name (get_or g.names line.tail []) (get_or g.names line.head []) (λ e. fits.apart (one_place g.names line.tail line.head graph.distinct fits.tail fits.head e));
+        apart = other_name (get_or g.names line.tail []) (get_or g.names line.head []) (λ e. fits.apart (one_place g.names line.tail line.head graph.makes.distinct fits.tail fits.head e));
       });
   few_lines = omega (arith, small.lines, length-map g.lines (ends_in g.names));
 }

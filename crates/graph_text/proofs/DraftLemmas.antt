@@ -83,13 +83,15 @@ Fits-found names a b line tail head apart = record {
 -- what was read is a graph
 pub IsGraph-parts : (kind : Kind) (declared : Option Kind) (names : List (List ℕ)) (lines : List Line) → AreParts declared names lines → declared ≡ Some kind → 0 < length names → IsGraph (record { kind = kind; names = names; lines = lines })
 IsGraph-parts kind declared names lines parts is some = record {
-  some = omega (arith, some);
-  nodes = omega (arith, parts.few);
-  few = omega (arith, parts.few_lines);
+  makes = record {
+    some = omega (arith, some);
+    nodes = omega (arith, parts.few);
+    few = omega (arith, parts.few_lines);
+    distinct = parts.distinct;
+    ends = parts.within;
+    free = λ undirected. λ k d within. by (get_or lines k d).fixed undirected (parts.free k d within);
+  };
   named = parts.named;
-  distinct = parts.distinct;
-  ends = parts.within;
-  free = λ undirected. λ k d within. by (get_or lines k d).fixed undirected (parts.free k d within);
 }
   where
     by : (fixed : Bool) → kind ≡ Undirected → (fixed ≡ true → declared ≡ Some Directed) → fixed ≡ false

@@ -48,9 +48,9 @@ one_graph : (content : Content) (g h : GraphValue) → StandsFor content g → S
 one_graph content g h a b =
     let kind : g.kind ≡ h.kind = let e = sym a.kind ∙ b.kind in cc in
     let names : g.names ≡ h.names = sym a.names ∙ b.names in
-    let fits : All (Fits (length g.names)) h.lines = subst (λ ns. All (Fits (length ns)) h.lines) (sym names) b.graph.ends in
+    let fits : All (Fits (length g.names)) h.lines = subst (λ ns. All (Fits (length ns)) h.lines) (sym names) b.graph.makes.ends in
     let ends : map (ends_in g.names) g.lines ≡ map (ends_in g.names) h.lines = sym a.ends ∙ b.ends ∙ ap (λ ns. map (ends_in ns) h.lines) (sym names) in
-    let lines = one_list g.names g.lines h.lines a.graph.distinct a.graph.ends fits ends in
+    let lines = one_list g.names g.lines h.lines a.graph.makes.distinct a.graph.makes.ends fits ends in
     λ i. record { kind = kind i; names = names i; lines = lines i }
 
 -- ---- one end or one fault

@@ -29,7 +29,7 @@ arborescences-meet g r rows side graph suits feasible dual equal = record {
     suits = suits;
     belongs = tt;
     in_range = (All-weaker (IsSpanningArborescence (length g.names) g.lines r) (All (λ j. j < length g.lines)) (λ row a. a.picks.in_range) rows feasible.each, dual.nonempty.long);
-    numbers_fit = omega (arith, equal, count_by-le-length (enters side) g.lines, graph.few, small);
+    numbers_fit = omega (arith, equal, count_by-le-length (enters side) g.lines, graph.makes.few, small);
   };
   object = feasible;
   dual = dual;
@@ -47,7 +47,7 @@ trees-meet g rows classes graph suits feasible dual equal = record {
       All-weaker (IsSpanningTree (length g.names) g.lines) (All (λ j. j < length g.lines)) (λ row tree. tree.forest.picks.in_range) rows feasible.each,
       All-weaker (IsNonempty (length g.names)) (λ X. length X ≡ length g.names) (λ X some. some.long) classes dual.partition.nonempty,
     );
-    numbers_fit = omega (arith, equal, div-le_self (between classes g.lines) (length classes - 1), count_by-le-length (parted classes) g.lines, graph.few, small);
+    numbers_fit = omega (arith, equal, div-le_self (between classes g.lines) (length classes - 1), count_by-le-length (parted classes) g.lines, graph.makes.few, small);
   };
   object = feasible;
   dual = dual;
@@ -70,7 +70,7 @@ covers-meet g rows side graph suits feasible dual equal =
         suits = suits;
         belongs = tt;
         in_range = (rows_in_range g rows feasible, dual.0.long);
-        numbers_fit = omega (arith, equal, few, count_by-le-length (within side) g.lines, graph.few, small);
+        numbers_fit = omega (arith, equal, few, count_by-le-length (within side) g.lines, graph.makes.few, small);
       };
       object = feasible;
       dual = dual;

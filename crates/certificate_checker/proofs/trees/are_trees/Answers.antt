@@ -11,6 +11,6 @@ returns c =
     let rows = c.args.rows.now in
     let many : All (λ row. length row ≡ length g.names - 1) rows =
     subst (λ n. All (λ row. length row ≡ n - 1) rows) c.node_count.ensures (c.have_length.ensures.0 c.if-not-have_length.false) in
-    let both = trees-feasible g rows c.known.ensures.some many (c.in_ok-are_disjoint.ensures.0 c.if-not-branch.false) in
+    let both = trees-feasible g rows c.known.ensures.makes.some many (c.in_ok-are_disjoint.ensures.0 c.if-not-branch.false) in
     IfOk-weaker c.are_forests.result (λ forests. IsTrue forests ↔ All (IsForest (length g.names) g.lines) rows) (λ trees. IsTrue trees ↔ IsFeasible g rows)
     (λ _ told. (λ is. both.0 (told.0 is), λ feasible. told.1 (both.1 feasible))) c.are_forests.ensures

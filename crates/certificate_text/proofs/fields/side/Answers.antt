@@ -10,4 +10,4 @@ loop-v-preserved c =
     let v = c.loop-v.v in
     let within : v < length names = search rules in
     let name : c.bytes.result.now ≡ get_or names v [] = c.bytes.ensures ∙ sym (get_or_from_slice_get names v c.name.result.now [] c.name.ensures) in
-    rw c.put.ensures (side-step names (words_left c.args.words) v c.loop-v.side (words_left c.loop-v.left) (words_left c.after_word-here.result.1) c.bytes.result.now c.after_word-here.result.0 c.known.ensures.distinct within name c.loop-v.invariant c.after_word-here.ensures.here c.after_word-here.ensures.other)
+    rw c.put.ensures (side-step names (words_left c.args.words) v c.loop-v.side (words_left c.loop-v.left) (words_left c.after_word-here.result.1) c.bytes.result.now c.after_word-here.result.0 c.known.ensures.makes.distinct within name c.loop-v.invariant c.after_word-here.ensures.here c.after_word-here.ensures.other)

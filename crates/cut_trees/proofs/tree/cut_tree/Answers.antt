@@ -13,7 +13,7 @@ pub loop-s-init : goal.loop-s-init
 loop-s-init c =
     let n = c.node_count-n.result in
     let zeros : c.in_ok-reps.reps.items ≡ replicate n 0 = c.in_ok-reps.ensures.items_if_clones_equal (λ y h. h) in
-    let first = grown_first (length c.args.graph.now.names) c.args.graph.now.lines (at []) (slice_index c.in_ok-reps.reps.items) c.known.ensures.some
+    let first = grown_first (length c.args.graph.now.names) c.args.graph.now.lines (at []) (slice_index c.in_ok-reps.reps.items) c.known.ensures.makes.some
     (λ x l. ap (λ xs. slice_index xs x) zeros ∙ get_or-replicate n x 0 0 (omega (arith, c.node_count-n.ensures))) in
     record {
       same = c.in_ok-cuts.ensures;
@@ -45,7 +45,7 @@ returns c =
     let graph = c.args.graph.now in
     let n = length graph.names in
     let bs = c.loop-s.branches.items in
-    let some = c.known.ensures.some in
+    let some = c.known.ensures.makes.some in
     let all : c.loop-s.s ≡ n = omega arith in
     let grown = subst (λ s. IsGrown n s graph.lines (length bs) (at bs) (slice_index c.loop-s.reps.items)) all c.loop-s.invariant.grown in
     let tree : IsCutTree graph (map pair_of bs) = grown_tree bs grown graph refl refl in

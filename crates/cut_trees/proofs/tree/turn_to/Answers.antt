@@ -10,21 +10,21 @@ use Rattle.cut_trees.proofs.tree.turn_to.Goals as goal
 
 pub gather-requires-clause-long : goal.gather-requires-clause-long
 gather-requires-clause-long c =
-    let fit = rw c.requires.nodes at c.known.ensures.ends in
+    let fit = rw c.requires.nodes at c.known.ensures.makes.ends in
     let bs = c.turn_branches.new.branches in
     let turn = turn_begun fit c.requires.grown c.requires.next c.requires.rep (at bs) c.turn_branches.ensures in
     All-from_get_or (λ b. length b.side ≡ length c.least_cut-weight.new.into) bs no_branch (λ j l. turn.grown.long j (omega arith) ∙ sym (c.least_cut-weight.ensures.cut.long ∙ c.requires.nodes))
 
 pub gather-requires-clause-first : goal.gather-requires-clause-first
 gather-requires-clause-first c =
-    let fit = rw c.requires.nodes at c.known.ensures.ends in
+    let fit = rw c.requires.nodes at c.known.ensures.makes.ends in
     let bs = c.turn_branches.new.branches in
     let turn = turn_begun fit c.requires.grown c.requires.next c.requires.rep (at bs) c.turn_branches.ensures in
     All-from_get_or (λ b. b.first < length c.least_cut-weight.new.into) bs no_branch (λ j l. omega (arith, turn.grown.first_in j (omega arith), c.requires.next, c.least_cut-weight.ensures.cut.long))
 
 pub lead_on-requires : goal.lead_on-requires
 lead_on-requires c =
-    let fit = rw c.requires.nodes at c.known.ensures.ends in
+    let fit = rw c.requires.nodes at c.known.ensures.makes.ends in
     let bs = c.turn_branches.new.branches in
     let turn = turn_begun fit c.requires.grown c.requires.next c.requires.rep (at bs) c.turn_branches.ensures in
     All-from_get_or (λ b. b.first < length c.gather.new.side) bs no_branch (λ j l. omega (arith, turn.grown.first_in j (omega arith), c.requires.next, c.least_cut-weight.ensures.cut.long))
@@ -34,7 +34,7 @@ returns-clause-grown c =
     let n = length c.args.reps.now in
     let ls = c.args.cuts.now.graph.now.lines in
     let w = c.least_cut-weight.result in
-    let fit = rw c.requires.nodes at c.known.ensures.ends in
+    let fit = rw c.requires.nodes at c.known.ensures.makes.ends in
     let cut : IsLeastSide n ls c.args.s c.args.t w c.least_cut-weight.new.into = rw c.requires.nodes at c.least_cut-weight.ensures.cut in
     let turn = turn_begun fit c.requires.grown c.requires.next c.requires.rep (at c.turn_branches.new.branches) c.turn_branches.ensures in
     let long : length c.turn_branches.new.branches ≡ length c.args.branches.now = omega arith in

@@ -7,7 +7,7 @@ use Rattle.edmonds_branchings.proofs.arborescences.least_side.Goals as goal
 use Rattle.edmonds_branchings.proofs.arborescences.least_side.Goals.{then-v-root, else-v-root}
 
 pub of_arcs-requires-clause-ends : goal.of_arcs-requires-clause-ends
-of_arcs-requires-clause-ends c = rw (c.deref.ensures.value, c.in_ok-arcs.ensures, c.lines.ensures, c.node_count-n.ensures) (ends_turned c.args.graph.now.lines c.known.ensures.ends)
+of_arcs-requires-clause-ends c = rw (c.deref.ensures.value, c.in_ok-arcs.ensures, c.lines.ensures, c.node_count-n.ensures) (ends_turned c.args.graph.now.lines c.known.ensures.makes.ends)
 
 pub loop-v-init : goal.loop-v-init
 loop-v-init c =

@@ -15,7 +15,7 @@ returns-clause-certified c =
     let are : ArePacked n k g.lines (root_alone n c.args.root k) c.in_ok-object.object = rw (c.in_ok-roots.ensures, c.node_count.ensures) at c.in_ok-object.ensures in
     let dual = c.in_ok-dual.ensures in
     record {
-      feasible = record { each = all_spanning c.requires.suits.root c.known.ensures.ends are; disjoint = are.disjoint };
+      feasible = record { each = all_spanning c.requires.suits.root c.known.ensures.makes.ends are; disjoint = are.disjoint };
       dual_feasible = record { nonempty = dual.nonempty; misses = dual.misses };
       equal = are.many ∙ c.entering-k.ensures.count;
     }

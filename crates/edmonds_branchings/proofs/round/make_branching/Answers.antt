@@ -27,12 +27,12 @@ loop-init c =
     }
 
 pub find_step-requires-clause-ends : goal.find_step-requires-clause-ends
-find_step-requires-clause-ends c = rw (c.deref.ensures.value, c.node_count-n.ensures) (ends_left c.known.ensures.ends c.loop.invariant.row.left)
+find_step-requires-clause-ends c = rw (c.deref.ensures.value, c.node_count-n.ensures) (ends_left c.known.ensures.makes.ends c.loop.invariant.row.left)
 
 pub take_step-requires-clause-tail : goal.take_step-requires-clause-tail
 take_step-requires-clause-tail c =
     let e = rw c.deref.ensures.value at c.in_ok-j.ensures.eligible in
-    let ends = ends_left c.known.ensures.ends c.loop.invariant.row.left c.in_ok-j.j no_arc (left_within c.loop.arcs.items c.in_ok-j.j e.left) in
+    let ends = ends_left c.known.ensures.makes.ends c.loop.invariant.row.left c.in_ok-j.j no_arc (left_within c.loop.arcs.items c.in_ok-j.j e.left) in
     omega (arith, ends.0, c.loop.invariant.round.long)
 
 pub loop-preserved : goal.loop-preserved
@@ -45,7 +45,7 @@ loop-preserved c =
     let e : IsEligible arcs T j = rw c.deref.ensures.value at c.in_ok-j.ensures.eligible in
     let free : IsFree n c.args.k arcs j = rw (c.deref.ensures.value, c.node_count-n.ensures) at c.in_ok-j.ensures.free in
     let refused : AreRefused n c.args.k arcs c.find_step.new.refused = rw (c.deref.ensures.value, c.node_count-n.ensures) at c.in_ok-j.ensures.refused in
-    let ends = ends_left c.known.ensures.ends inv.row.left in
+    let ends = ends_left c.known.ensures.makes.ends inv.row.left in
     let tail = ends j no_arc (left_within arcs j e.left) in
     let below : (cap_at arcs j).tail < length T = omega (arith, tail.0, inv.round.long) in
     let step = c.in_ok-take_step.ensures in

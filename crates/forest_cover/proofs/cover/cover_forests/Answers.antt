@@ -12,7 +12,7 @@ pub improve-init : goal.improve-init
 improve-init c =
     let n = length c.args.graph.now.names in
     let some : 1 ≤ length c.args.graph.now.lines = let ne = c.if-line_count-eq0.false in let e = c.line_count.ensures.count in omega arith in
-    let two = nodes_two n c.args.graph.now.lines c.known.ensures.ends some in
+    let two = nodes_two n c.args.graph.now.lines c.known.ensures.makes.ends some in
     let whole : c.in_ok-side.side ≡ replicate n true = c.in_ok-side.ensures ∙ ap (λ m. replicate m true) c.node_count.ensures in
     record {
       nonempty = subst (IsNonempty n) (sym whole) (all-nonempty n (omega arith));
@@ -38,7 +38,7 @@ densest-requires-clause-some c =
     let ne = c.if-lines_of-line_count.false in
     let lines = c.lines_of.ensures in
     let count = c.line_count-in-improve.ensures.count in
-    some_class (length g.names) g.lines c.known.ensures.ends c.demand_of.result found.rows found.classes c.in_ok-rows.ensures (omega arith)
+    some_class (length g.names) g.lines c.known.ensures.makes.ends c.demand_of.result found.rows found.classes c.in_ok-rows.ensures (omega arith)
 
 pub improve-smaller : goal.improve-smaller
 improve-smaller c =
@@ -48,7 +48,7 @@ improve-smaller c =
     let ne = c.if-lines_of-line_count.false in
     let lines = c.lines_of.ensures in
     let count = c.line_count-in-improve.ensures.count in
-    let more = denser (length g.names) g.lines c.known.ensures.ends c.demand_of.result found.rows found.classes c.in_ok-rows.ensures (omega arith) c.densest.result c.densest.ensures in
+    let more = denser (length g.names) g.lines c.known.ensures.makes.ends c.demand_of.result found.rows found.classes c.in_ok-rows.ensures (omega arith) c.densest.result c.densest.ensures in
     let side = get_or_from_slice_get found.classes c.densest.result c.remove-side.result [] c.remove-side.ensures.item in
     let next : c.demand_of.result < demand g.lines c.remove-side.result = subst (λ X. c.demand_of.result < demand g.lines X) side more in
     let old = c.demand_of.ensures in
@@ -63,7 +63,7 @@ improve-preserved c =
     let ne = c.if-lines_of-line_count.false in
     let lines = c.lines_of.ensures in
     let count = c.line_count-in-improve.ensures.count in
-    let more = denser (length g.names) g.lines c.known.ensures.ends c.demand_of.result found.rows found.classes c.in_ok-rows.ensures (omega arith) c.densest.result c.densest.ensures in
+    let more = denser (length g.names) g.lines c.known.ensures.makes.ends c.demand_of.result found.rows found.classes c.in_ok-rows.ensures (omega arith) c.densest.result c.densest.ensures in
     let side = get_or_from_slice_get found.classes c.densest.result c.remove-side.result [] c.remove-side.ensures.item in
     let next : c.demand_of.result < demand g.lines c.remove-side.result = subst (λ X. c.demand_of.result < demand g.lines X) side more in
     record {

@@ -14,7 +14,7 @@ pub join_marked-requires-clause-fit : goal.join_marked-requires-clause-fit
 join_marked-requires-clause-fit c =
     let nodes = c.in_ok-classes.ensures.parents_long ∙ c.node_count.ensures in
     subst (λ ls. count_by (unfit (length c.in_ok-classes.classes.parents.items)) ls ≡ 0) (sym c.lines.ensures)
-    (subst (λ n. count_by (unfit n) c.args.graph.now.lines ≡ 0) (sym nodes) (count_by-unfit (length c.args.graph.now.names) c.args.graph.now.lines c.known.ensures.ends))
+    (subst (λ n. count_by (unfit n) c.args.graph.now.lines ≡ 0) (sym nodes) (count_by-unfit (length c.args.graph.now.names) c.args.graph.now.lines c.known.ensures.makes.ends))
 
 pub returns : goal.returns
 returns c =
@@ -25,7 +25,7 @@ returns c =
     let nodes : length c.in_ok-classes.classes.parents.items ≡ n = c.in_ok-classes.ensures.parents_long ∙ c.node_count.ensures in
     let long : length parents ≡ n = c.join_marked.ensures.roots.parents_long ∙ nodes in
     let classes = subst (λ xs. AreClasses n parents (chosen c.args.marks.now xs)) c.lines.ensures (subst (λ m. AreClasses m parents (chosen c.args.marks.now c.lines.result.now)) nodes c.join_marked.ensures.classes) in
-    let whole = count_by-unfit n ls c.known.ensures.ends in
+    let whole = count_by-unfit n ls c.known.ensures.makes.ends in
     let fit : count_by (unfit n) made ≡ 0 = let some = chosen-all (unfit n) c.args.marks.now ls in omega arith in
     let roots = c.in_ok-roots.roots.items in
     let found = components_of n parents made fit long classes (slice_index roots) (λ v l. c.in_ok-roots.ensures.each v (rw long l)) in

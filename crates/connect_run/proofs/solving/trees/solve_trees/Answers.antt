@@ -8,7 +8,7 @@ use Rattle.problem_defs.proofs.Suited.{trees_suits}
 use Rattle.connect_run.proofs.solving.trees.solve_trees.Goals as goal
 
 pub pack_trees-requires : goal.pack_trees-requires
-pack_trees-requires c = trees_suits c.args.graph.now c.known.ensures.some c.requires
+pack_trees-requires c = trees_suits c.args.graph.now c.known.ensures.makes.some c.requires
 
 pub returns-clause-meets : goal.returns-clause-meets
 returns-clause-meets c =

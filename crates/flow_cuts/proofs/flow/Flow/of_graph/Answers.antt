@@ -18,13 +18,13 @@ fits_at n m ls e h = let P : ℕ → Type 0 = λ k. All (Fits k) ls in subst P (
 pub over-requires-clause-from : goal.over-requires-clause-from
 over-requires-clause-from c = λ s lt.
     let n = c.node_count.result in
-    let ends = graph_ends n c.kind-kind.result c.args.graph.now.lines (fits_at n (length c.args.graph.now.names) c.args.graph.now.lines c.node_count.ensures c.known.ensures.ends) in
+    let ends = graph_ends n c.kind-kind.result c.args.graph.now.lines (fits_at n (length c.args.graph.now.names) c.args.graph.now.lines c.node_count.ensures c.known.ensures.makes.ends) in
     (link_ends n (link_along c.kind-kind.result) c.args.graph.now.lines c.in_ok-whole.whole.items no_line (c.in_ok-whole.ensures.links ∙ ap (map (link_along c.kind-kind.result)) c.lines.ensures) ends s lt).0
 
 pub over-requires-clause-to : goal.over-requires-clause-to
 over-requires-clause-to c = λ s lt.
     let n = c.node_count.result in
-    let ends = graph_ends n c.kind-kind.result c.args.graph.now.lines (fits_at n (length c.args.graph.now.names) c.args.graph.now.lines c.node_count.ensures c.known.ensures.ends) in
+    let ends = graph_ends n c.kind-kind.result c.args.graph.now.lines (fits_at n (length c.args.graph.now.names) c.args.graph.now.lines c.node_count.ensures c.known.ensures.makes.ends) in
     (link_ends n (link_along c.kind-kind.result) c.args.graph.now.lines c.in_ok-whole.whole.items no_line (c.in_ok-whole.ensures.links ∙ ap (map (link_along c.kind-kind.result)) c.lines.ensures) ends s lt).1
 
 pub over-requires-clause-graph : goal.over-requires-clause-graph
