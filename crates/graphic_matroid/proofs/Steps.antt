@@ -1,11 +1,11 @@
 -- The steps of joining classes by lines.
-use Rattle.std.proofs.Common.{ℕ, ◌≡◌, ◌≢◌, ◌+◌, ◌<◌, ◌⊎◌, inl, inr, Bool, false, List, length, get_or, set, take, sym, refl, ap, ◌∙◌, subst, ⊎_elim}
+use Rattle.std.proofs.Common.{ℕ, ◌≡◌, ◌≢◌, ◌+◌, ◌<◌, ◌⊎◌, inl, inr, Bool, false, List, length, set, take, sym, refl, ap, ◌∙◌, subst, ⊎_elim}
 use Rattle.graph_core.specs.Side.{has}
 use Rattle.graph_core.specs.Trees.{IsAcyclic}
 use Rattle.graph_core.specs.declared.graph.Line.{Line}
 use Rattle.graphic_matroid.specs.Chosen.{chosen}
 use Rattle.graphic_matroid.specs.Labels.{joined, splits, Labels, Adds, Finest}
-use Rattle.graphic_matroid.specs.Roots.{AreClasses}
+use Rattle.graphic_matroid.specs.Roots.{AreClasses, IsRootOf}
 use Rattle.graphic_matroid.specs.JoinLaws.{labels_more, joined_none}
 use Rattle.graphic_matroid.specs.LabelLaws.{circuit, forest_more}
 use Rattle.graphic_matroid.specs.ForestLaws.{finest_more, labels_same, forest_same, take_without}
@@ -13,15 +13,13 @@ use Rattle.graphic_matroid.proofs.RootLaws.{classes_joined}
 
 -- the roots a and b of the two ends of a line
 module _ (parents : List ℕ) (l : Line) (lt : l.tail < length parents) (lh : l.head < length parents)
-    (a b : ℕ) (la : a < length parents) (lb : b < length parents) (ra : get_or parents a 0 ≡ a) (rb : get_or parents b 0 ≡ b)
-    (sa : (label : ℕ → ℕ) → ((v : ℕ) → v < length parents → label (get_or parents v 0) ≡ label v) → label a ≡ label l.tail)
-    (sb : (label : ℕ → ℕ) → ((v : ℕ) → v < length parents → label (get_or parents v 0) ≡ label v) → label b ≡ label l.head)
+    (a b : ℕ) (tail : IsRootOf parents l.tail a) (head : IsRootOf parents l.head b)
     (ls more : List Line) (w : AreClasses (length parents) parents ls) (adds : Adds ls l more) where
   one_label : a ≡ b → w.label l.tail ≡ w.label l.head
-  one_label e = sym (sa w.label w.along) ∙ ap w.label e ∙ sb w.label w.along
+  one_label e = sym (tail.same w.label w.along) ∙ ap w.label e ∙ head.same w.label w.along
 
   two_labels : a ≢ b → w.label l.tail ≢ w.label l.head
-  two_labels ne e = ne (w.apart a b la lb ra rb (sa w.label w.along ∙ e ∙ sym (sb w.label w.along)))
+  two_labels ne e = ne (w.apart a b tail.below head.below tail.root head.root (tail.same w.label w.along ∙ e ∙ sym (head.same w.label w.along)))
 
   -- a line within a class joins nothing
   pub classes_kept : a ≡ b → AreClasses (length parents) parents more
@@ -41,7 +39,7 @@ module _ (parents : List ℕ) (l : Line) (lt : l.tail < length parents) (lh : l.
   pub classes_after : a ≢ b → (parents' : List ℕ) → (parents' ≡ set parents a b) ⊎ (parents' ≡ set parents b a) → AreClasses (length parents) parents' more
   classes_after ne parents' linked =
       let after : (c d : ℕ) → ((c ≡ a) × (d ≡ b)) ⊎ ((c ≡ b) × (d ≡ a)) → AreClasses (length parents) (set parents c d) more =
-      λ c d which. classes_joined (length parents) parents ls l more refl w adds lt lh a b la lb ra rb (sa w.label w.along) (sb w.label w.along) c d which ne in
+      λ c d which. classes_joined (length parents) parents ls l more refl w adds lt lh a b tail.below head.below tail.root head.root (tail.same w.label w.along) (head.same w.label w.along) c d which ne in
       ⊎_elim
       (λ e. subst (λ p. AreClasses (length parents) p more) (sym e) (after a b (inl (refl, refl))))
       (λ e. subst (λ p. AreClasses (length parents) p more) (sym e) (after b a (inr (refl, refl))))

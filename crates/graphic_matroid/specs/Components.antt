@@ -1,5 +1,5 @@
 -- The classes of the nodes that lines join.
-use Rattle.std.specs.Prelude.{◌≡◌, ℕ, ◌<◌, ◌≤◌, ◌==◌, Bool, true, false, List, map, length, slice_index, All}
+use Rattle.std.specs.Prelude.{◌≡◌, ℕ, ◌≤◌, ◌==◌, Bool, true, false, List, map, All}
 use Rattle.std.specs.List.{filter, range_with_len}
 use Rattle.graph_core.specs.Side.{has}
 use Rattle.graph_core.specs.Lines.{degree, between}
@@ -14,12 +14,6 @@ pub record AreComponents (n : ℕ) (ls : List Line) (P : List (List Bool)) : Typ
   pub apart : between P ls ≡ 0
   -- a line crosses each side that has a node of a class and lacks another
   pub joined : (X : List Bool) → All (λ C. (u v : ℕ) → has C u ≡ true → has C v ≡ true → has X u ≡ true → has X v ≡ false → 1 ≤ degree X ls) P
-
--- r is the root of the class of v
-pub record IsRootOf (parents : List ℕ) (v r : ℕ) : Type 0 where
-  pub below : r < length parents
-  pub root : slice_index parents r ≡ r
-  pub same : (label : ℕ → ℕ) → ((u : ℕ) → u < length parents → label (slice_index parents u) ≡ label u) → label r ≡ label v
 
 -- the classes by labels, each at the node that is its label
 abbrev pub classes_of : ℕ → (ℕ → ℕ) → List (List Bool)

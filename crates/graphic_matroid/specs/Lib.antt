@@ -1,6 +1,7 @@
 pub mod Chosen
 pub mod Labels
 pub mod Roots
+pub mod Growing
 pub mod Components
 pub mod Forests
 pub mod ChosenLaws

@@ -17,3 +17,21 @@ pub record AreClasses (n : ℕ) (parents : List ℕ) (ls : List Line) : Type 0 w
   pub finest : Finest label ls
   pub along : (v : ℕ) → v < n → label (slice_index parents v) ≡ label v
   pub apart : (u v : ℕ) → u < n → v < n → slice_index parents u ≡ u → slice_index parents v ≡ v → label u ≡ label v → u ≡ v
+
+-- r is the root of the class of v
+pub record IsRootOf (parents : List ℕ) (v r : ℕ) : Type 0 where
+  pub below : r < length parents
+  pub root : slice_index parents r ≡ r
+  pub same : (label : ℕ → ℕ) → ((u : ℕ) → u < length parents → label (slice_index parents u) ≡ label u) → label r ≡ label v
+
+-- the ends of the line lie in one class
+pub record HaveOneRoot (parents : List ℕ) (l : Line) : Type 0 where
+  pub root : ℕ
+  pub tail : IsRootOf parents l.tail root
+  pub head : IsRootOf parents l.head root
+
+-- the ends of the line lie in two classes, which have these roots
+pub record HaveTwoRoots (parents : List ℕ) (l : Line) (a b : ℕ) : Type 0 where
+  pub tail : IsRootOf parents l.tail a
+  pub head : IsRootOf parents l.head b
+  pub apart : a ≢ b

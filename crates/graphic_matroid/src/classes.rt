@@ -1,8 +1,8 @@
-ghost use Rattle.std.specs.Prelude.{◌≡◌, ◌≢◌, ◌⊎◌, ◌↔◌, ℕ, ◌+◌, ◌<◌, ◌≤◌, ◌^◌, List, length, slice_index, slice_set, IsTrue, IfOk};
+ghost use Rattle.std.specs.Prelude.{◌≡◌, ◌≢◌, ◌⊎◌, ◌↔◌, ℕ, ◌+◌, ◌<◌, ◌≤◌, ◌^◌, List, length, slice_index, slice_set, IsTrue, IsSome, IfSome, IfNone, IfOk};
 ghost use Rattle.graph_core.specs.Trees.{IsAcyclic};
 ghost use Rattle.graph_core.specs.declared.graph.Line.{Line as LineOf};
 ghost use Rattle.graphic_matroid.specs.Labels.{Adds};
-ghost use Rattle.graphic_matroid.specs.Roots.{AreRoots, AreClasses};
+ghost use Rattle.graphic_matroid.specs.Roots.{AreRoots, AreClasses, HaveOneRoot, HaveTwoRoots};
 
 use graph_core::{Line, NoMemory};
 use std::alloc::Global;
@@ -16,14 +16,19 @@ pub(crate) struct Classes {
 }
 
 impl Classes {
-    /// Room for the classes of `n` nodes.
+    /// Each of `n` nodes as a class of its own.
     pub(crate) fn new(alloc: Global, n: usize) -> Result<Classes, NoMemory>
+        requires { n < 2 ^ 32 }
         ensures parents_long { IfOk result (λ c. length c.parents.items ≡ n) }
         ensures ranks_long { IfOk result (λ c. length c.ranks.items ≡ n) }
+        ensures parents { IfOk result (λ c. (v : ℕ) → v < n → slice_index c.parents.items v ≡ v) }
+        ensures ranks { IfOk result (λ c. (v : ℕ) → v < n → slice_index c.ranks.items v ≡ 0) }
     {
         let parents = zeros(alloc, n)?;
         let ranks = zeros(alloc, n)?;
-        Ok(Classes { parents, ranks })
+        let mut classes = Classes { parents, ranks };
+        classes.reset();
+        Ok(classes)
     }
 
     /// Makes each node a class of its own.
@@ -82,6 +87,24 @@ impl Classes {
         }
     }
 
+    /// The roots of the classes of the line's two ends, where they are two.
+    pub(crate) fn two_roots(&self, line: Line) -> Option<(u32, u32)>
+        requires roots { AreRoots (length self.now.parents.items) self.now.parents.items self.now.ranks.items }
+        requires tail { line.tail < length self.now.parents.items }
+        requires head { line.head < length self.now.parents.items }
+        ensures two { IfSome result (λ roots. HaveTwoRoots self.now.parents.items line roots.0 roots.1) }
+        ensures one { IfNone result (HaveOneRoot self.now.parents.items line) }
+        ensures forest { (ls more : List LineOf) → AreClasses (length self.now.parents.items) self.now.parents.items ls → Adds ls line more → IsAcyclic (length self.now.parents.items) ls → (IsSome result ↔ IsAcyclic (length self.now.parents.items) more) }
+    {
+        let tail = self.root(line.tail);
+        let head = self.root(line.head);
+        if tail == head {
+            None
+        } else {
+            Some((tail, head))
+        }
+    }
+
     /// Makes one class of those of the line's two ends, and says whether they were two.
     pub(crate) fn join_ends(&mut self, line: Line) -> bool
         requires roots { AreRoots (length self.old.parents.items) self.old.parents.items self.old.ranks.items }
@@ -93,11 +116,9 @@ impl Classes {
         ensures classes { (ls more : List LineOf) → AreClasses (length self.old.parents.items) self.old.parents.items ls → Adds ls line more → AreClasses (length self.old.parents.items) self.new.parents.items more }
         ensures forest { (ls more : List LineOf) → AreClasses (length self.old.parents.items) self.old.parents.items ls → Adds ls line more → IsAcyclic (length self.old.parents.items) ls → (IsTrue result ↔ IsAcyclic (length self.old.parents.items) more) }
     {
-        let tail = self.root(line.tail);
-        let head = self.root(line.head);
-        if tail == head {
+        let Some((tail, head)) = self.two_roots(line) else {
             return false;
-        }
+        };
         self.join(tail, head);
         true
     }

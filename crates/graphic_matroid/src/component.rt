@@ -1,8 +1,8 @@
 ghost use Rattle.std.specs.Prelude.{◌≡◌, ℕ, ◌<◌, ◌≤◌, ◌^◌, length, slice_index, count_by, IfOk};
 ghost use Rattle.graphic_matroid.specs.Chosen.{chosen};
-ghost use Rattle.graphic_matroid.specs.Components.{AreComponents, IsRootOf, classes_of};
+ghost use Rattle.graphic_matroid.specs.Components.{AreComponents, classes_of};
 ghost use Rattle.graphic_matroid.specs.Labels.{unfit, class};
-ghost use Rattle.graphic_matroid.specs.Roots.{AreRoots, AreClasses};
+ghost use Rattle.graphic_matroid.specs.Roots.{AreRoots, AreClasses, IsRootOf};
 
 use crate::classes::Classes;
 use graph_core::{Graph, Line, Marks, NoMemory, Side, Sides};

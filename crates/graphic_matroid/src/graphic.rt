@@ -8,6 +8,13 @@ use graph_core::{Graph, Line, Marks, NoMemory};
 use matroid_union::Matroid;
 use std::alloc::Global;
 
+/// A forest that grows line by line, and the classes of the nodes that its lines join.
+#[derive(Debug, Drop)]
+pub struct GrowingForest {
+    pub(crate) marks: Vec<bool>,
+    pub(crate) classes: Classes,
+}
+
 /// The lines of a graph as the elements of a matroid, of which the forests are free.
 #[derive(Debug, Drop)]
 pub struct Graphic {
@@ -46,10 +53,17 @@ impl Matroid for Graphic {
     ghost use Rattle.graph_core.specs.Trees.{IsAcyclic};
     ghost use Rattle.graphic_matroid.specs.Chosen.{chosen};
     ghost use Rattle.graphic_matroid.specs.ForestLaws.{forest_matroid};
+    ghost use Rattle.graphic_matroid.specs.Growing.{IsGrowingForest};
+
+    type Set = GrowingForest;
 
     ghost count = { λ g. length g.lines.items };
 
     ghost free = { λ g X. IsAcyclic g.nodes (chosen X g.lines.items) };
+
+    ghost members = { λ set. set.marks.items };
+
+    ghost keeps = { λ g set. IsGrowingForest g.nodes g.lines.items set.marks.items set.classes.parents.items set.classes.ranks.items };
 
     ghost laws = { λ g. forest_matroid g.nodes g.lines.items g.fit };
 
@@ -59,6 +73,30 @@ impl Matroid for Graphic {
 
     fn is_free(&mut self, set: &Marks) -> bool {
         is_forest(&self.lines, set, &mut self.classes)
+    }
+
+    fn no_elements(&self, alloc: Global) -> Result<GrowingForest, NoMemory> {
+        let marks = Vec::from_elem(alloc, false, self.size())?;
+        let classes = Classes::new(alloc, self.nodes)?;
+        Ok(GrowingForest { marks, classes })
+    }
+
+    fn clear(&self, set: &mut GrowingForest) {
+        set.marks.fill(false);
+        set.classes.reset();
+    }
+
+    fn takes(&self, set: &GrowingForest, element: u32) -> bool {
+        let line = element as usize;
+        set.marks[line] || set.classes.two_roots(self.lines[line]).is_some()
+    }
+
+    fn add(&self, set: &mut GrowingForest, element: u32) {
+        let line = element as usize;
+        if !set.marks[line] {
+            set.marks[line] = true;
+            set.classes.join_ends(self.lines[line]);
+        }
     }
 }
 

@@ -8,7 +8,7 @@ mod graphic;
 
 pub use component::components;
 pub use forests::{Forests, most_forests, no_more_lines};
-pub use graphic::Graphic;
+pub use graphic::{Graphic, GrowingForest};
 
 #[cfg(test)]
 mod tests;

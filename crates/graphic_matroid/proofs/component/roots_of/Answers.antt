@@ -1,7 +1,7 @@
 use Rattle.std.proofs.Common.{◌≡◌, ◌+◌, [], ◌∷◌, ◌++◌, length, get_or, sym, ap, ◌∙◌, subst, arith, ⊎_elim}
 use Rattle.std.proofs.lemmas.Bool.{cases_eq}
 use Rattle.std.proofs.lemmas.List.{length_push, get_or_push, get_or_append_left}
-use Rattle.graphic_matroid.specs.Components.{IsRootOf}
+use Rattle.graphic_matroid.specs.Roots.{IsRootOf}
 use Rattle.graphic_matroid.proofs.component.roots_of.Goals as goal
 
 pub loop-v-preserved : goal.loop-v-preserved

@@ -1,5 +1,5 @@
 use Rattle.std.proofs.Common.{ℕ, ◌≡◌, ◌<◌, length, get_or}
-use Rattle.graphic_matroid.specs.Components.{IsRootOf}
+use Rattle.graphic_matroid.specs.Roots.{IsRootOf}
 use Rattle.graphic_matroid.proofs.component.roots_of.Given as goal
 
 abbrev pub invariant-loop-v : goal.invariant-loop-v
