@@ -1,5 +1,5 @@
 -- How a side grows by pairs that cross it.
-use Rattle.std.proofs.Common.{◌≡◌, ℕ, zero, suc, ◌+◌, ◌<◌, ◌≤◌, Bool, true, false, ◌&&◌, List, [], ◌∷◌, ◌++◌, length, refl, sym, ap, ◌∙◌, take, subst, arith, length-set}
+use Rattle.std.proofs.Common.{◌≡◌, ℕ, zero, suc, ◌+◌, ◌<◌, ◌≤◌, Bool, true, false, ◌&&◌, List, [], ◌∷◌, ◌++◌, length, refl, sym, ap, ◌∙◌, take, subst, arith}
 use Rattle.std.specs.Prelude.{slice_set, ◌||◌, remove}
 use Rattle.std.specs.Bool.{OnTrue, OnFalse}
 use Rattle.std.proofs.lemmas.List.Sums.{sum_by-cons, sum_by-append}
@@ -10,7 +10,6 @@ use Rattle.graph_core.proofs.SizeLaws.{size-none}
 use Rattle.graph_core.proofs.Counting.{weight}
 use Rattle.graph_core.proofs.FamilyLaws.{count_by-le}
 use Rattle.certificate_checker.specs.TreeSides.{pair_at, inside, AreUncrossed, AddsOther, IsGrown, IsReach}
-use Rattle.graph_core.proofs.PutLaws.{size-put}
 
 pub has-put : (X : List Bool) (v : ℕ) → v < length X → has (slice_set X v true) v ≡ true
 has-put [] v l = absurd (omega arith)
@@ -23,26 +22,6 @@ put-keeps (x ∷ X) zero zero h = refl
 put-keeps (x ∷ X) zero (suc w) h = h
 put-keeps (x ∷ X) (suc v) zero h = h
 put-keeps (x ∷ X) (suc v) (suc w) h = put-keeps X v w h
-
-pub adds-second : (X Y : List Bool) (u v : ℕ) → v < length X → has X u ≡ true → has X v ≡ false → Y ≡ slice_set X v true → AddsOther u v X Y
-adds-second X Y u v l hu hv is = rw is (record {
-  long = length-set X v true;
-  keeps = put-keeps X v;
-  crossed = (λ z. hu z && hv z);
-  first = put-keeps X v u hu;
-  second = has-put X v l;
-  one = size-put X v l hv;
-})
-
-pub adds-first : (X Y : List Bool) (u v : ℕ) → u < length X → has X u ≡ false → has X v ≡ true → Y ≡ slice_set X u true → AddsOther u v X Y
-adds-first X Y u v l hu hv is = rw is (record {
-  long = length-set X u true;
-  keeps = put-keeps X u;
-  crossed = (λ z. hu z && hv z);
-  first = has-put X u l;
-  second = put-keeps X u v hv;
-  one = size-put X u l hu;
-})
 
 pub grown-same : (pairs : List (ℕ × ℕ × ℕ)) (X : List Bool) → IsGrown pairs X X
 grown-same pairs X = record { long = refl; keeps = λ w h. h; paid = omega arith }

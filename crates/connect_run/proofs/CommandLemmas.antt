@@ -14,11 +14,6 @@ use Rattle.connect_words.proofs.MeaningLemmas.{one_command}
 use Rattle.connect_run.specs.Built.{AreCommand, is_built, is_solving, is_solved}
 use Rattle.connect_run.specs.WordsCase.{IsBadPlace}
 
--- a built command but `check` is solved
-pub built-solving : (command : Command) → is_built command ≡ true → command ≢ Check → is_solving command ≡ true
-built-solving Check built other = absurd (other refl)
-built-solving command built other = built
-
 -- a command that is solved asks something, which is solved and is within its limits
 built-asks : (g : GraphValue) (words : List (List ℕ)) (command : Command) → is_solving command ≡ true → (ask : Ask) × (asked g words command ≡ Some ask) × (is_solved ask ≡ true) × KIsInRange ask
 built-asks g words Flow built = (ask.Flow (node_at g words 1) (node_at g words 2), refl, refl, tt)
@@ -34,15 +29,6 @@ pub record CanBeAsked (g : GraphValue) (words : List (List ℕ)) (command : Comm
   pub solved : is_solved ask ≡ true
   pub k : KIsInRange ask
   pub suits : misfit_of g ask ≡ None
-
--- it solves a problem on the graph that is read
-pub built-solves : (command : Command) → is_solving command ≡ true → Solves command
-built-solves Flow built = ((λ same. cc), (λ kind nodes number same. cc))
-built-solves CutTree built = ((λ same. cc), (λ kind nodes number same. cc))
-built-solves Arborescences built = ((λ same. cc), (λ kind nodes number same. cc))
-built-solves Trees built = ((λ same. cc), (λ kind nodes number same. cc))
-built-solves Forests built = ((λ same. cc), (λ kind nodes number same. cc))
-built-solves command built = absurd cc
 
 -- what is said of the command's ask
 abbrev pub IsAsked : GraphValue → List (List ℕ) → Command → Result Ask Misfit → Type 0
@@ -69,13 +55,6 @@ pub err-asks : (g : GraphValue) (words : List (List ℕ)) (command : Command) (g
 err-asks g words command given built is =
     let (ask, asks, solved, k) = built-asks g words command built in
     (ask, asks, unless-err (misfit_of g ask) ask given (is-suited g words command (Err given) ask is asks))
-
--- an ask that was given suits
-pub given-suits : (g : GraphValue) (words : List (List ℕ)) (command : Command) (given ask : Ask) (misfit : Misfit) → IsAsked g words command (Ok given) → asked g words command ≡ Some ask → misfit_of g ask ≡ Some misfit → ⊥
-given-suits g words command given ask misfit is asks unsuited =
-    let suits : misfit_of g ask ≡ None = (unless-ok (misfit_of g ask) ask given (is-suited g words command (Ok given) ask is asks)).0 in
-    let clash : None ≡ Some misfit = sym suits ∙ unsuited in
-    cc
 
 -- words that are a command aren't bad
 pub command-not-bad : (words : List (List ℕ)) (place : ℕ) → IsBadPlace words place → AreCommand words → ⊥

@@ -50,10 +50,3 @@ write_all command ws ss v w verb_is word_is slots_are suit reads =
     let is : w ≡ verb_word (verb_of command) = word_is ∙ ap verb_word verb_is in
     let suits : SuitAll (slots (verb_of command)) ws = subst (λ s. SuitAll s ws) (slots_are ∙ ap slots verb_is) suit in
     subst (λ u. Writes command (u ∷ ws)) (sym is) (slots_write command ws suits (subst (λ u. Reads (u ∷ ws) command) is reads))
-
--- the command
-pub filled_writes : (words : List (List ℕ)) (v : Verb) (ss : List Slot) (n : ℕ) (command : Command) → Filled words v ss n → length ss ≤ n → length words ≤ length ss + 1 → verb_of command ≡ v → Reads words command → Writes command words
-filled_writes [] v ss n command f all few verb_is reads = let e = f.head in absurd cc
-filled_writes (w ∷ ws) v ss n command f all few verb_is reads =
-    write_all command ws ss v w (sym verb_is) (some_injective f.head) f.slots_are
-    (collect ss ws (λ at below. behind w ws (slice_get ss at) at (f.before at (omega (arith, below, all)))) (omega (arith, few))) reads

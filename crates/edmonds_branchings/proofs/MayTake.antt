@@ -1,21 +1,13 @@
 -- What a run says of an arc.
-use Rattle.std.specs.Prelude.{ℕ, ◌≡◌, ◌+◌, ◌<◌, ◌≤◌, ◌⊎◌, Bool, true, false, List, length, slice_set, refl}
+use Rattle.std.specs.Prelude.{ℕ, ◌≡◌, ◌+◌, ◌<◌, ◌⊎◌, Bool, true, false, List, length, slice_set}
 use Rattle.std.proofs.Common.{sym, ap, ◌∙◌, inl, inr, arith}
 use Rattle.std.proofs.lemmas.Bool.{cases_eq}
 use Rattle.std.proofs.lemmas.List.{get_or-set_same, get_or-set_other}
 use Rattle.graph_core.specs.Side.{has, IsOnly}
 use Rattle.flow_cuts.specs.declared.network.Cap.{Cap}
-use Rattle.flow_cuts.specs.Network.{leaving}
 use Rattle.flow_cuts.specs.Cuts.{IsLeastCapacity}
 use Rattle.edmonds_branchings.specs.Network.{cap_at}
 use Rattle.edmonds_branchings.specs.Round.{IsFree, IsBlocked}
-use Rattle.edmonds_branchings.proofs.Capacity.{leaving-le-capacity}
-
--- an arc that is left k times may be taken
-pub free_enough : (n k : ℕ) (arcs : List Cap) (j : ℕ) → j < length arcs → k ≤ (cap_at arcs j).cap → IsFree n k arcs j
-free_enough n k arcs j l enough X x tail head =
-    let all : leaving X (cap_at arcs j) ≡ (cap_at arcs j).cap = rw (tail, head) refl in
-    omega (arith, leaving-le-capacity arcs j X l)
 
 module _ (n k : ℕ) (arcs : List Cap) (j answer : ℕ) (I H O : List Bool)
     (inside : IsOnly I (cap_at arcs j).tail) (other : IsOnly H (cap_at arcs j).head) (outside : O ≡ slice_set H n true) (long : length H ≡ n + 1)

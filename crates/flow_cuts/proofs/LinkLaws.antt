@@ -35,9 +35,6 @@ EachFits-push ls l f fits = record {
   ];
 }
 
-pub EachFits-none : EachFits []
-EachFits-none = record { at = λ j lt. absurd (omega arith) }
-
 both_below : (n : ℕ) (l : Link) (w : Way) → (l.tail < n) × (l.head < n) → (from_of l w < n) × (to_of l w < n)
 both_below n l Forth h = h
 both_below n l Back h = (h.1, h.0)

@@ -192,9 +192,6 @@ SameSums-pushed ls s a lt le =
       ];
     }
 
-pub SameSums-refl : (ls : List Link) → SameSums ls ls
-SameSums-refl ls = record { at = λ j. refl }
-
 pub SameSums-trans : (a b c : List Link) → SameSums a b → SameSums b c → SameSums a c
 SameSums-trans a b c x y = record { at = λ j. y.at j ∙ x.at j }
 

@@ -1,5 +1,5 @@
 -- What a push along a step changes, for all sides at once.
-use Rattle.std.proofs.Common.{◌≡◌, ℕ, ◌+◌, ◌-◌, ◌<◌, ◌≤◌, List, length, Bool, true, false, cond, ap, arith}
+use Rattle.std.proofs.Common.{◌≡◌, ℕ, ◌+◌, ◌-◌, ◌<◌, ◌≤◌, List, length, Bool, true, false, cond, arith}
 use Rattle.std.proofs.lemmas.List.Sums.{sum_by-set}
 use Rattle.flow_cuts.specs.declared.network.Link.{Link}
 use Rattle.flow_cuts.specs.declared.network.Step.{Step}
@@ -46,24 +46,10 @@ pub record IsUnderWay (n : ℕ) (inside outside : List Bool) (arcs : List Cap) (
   pub sent : (X : List Bool) → Separates n inside outside X →
       (room_leaving X links + value) + at_outside (has X end) amount ≡ capacity X arcs + at_outside (has X v) amount
 
-pub IsUnderWay-start : (n : ℕ) (inside outside : List Bool) (arcs : List Cap) (links : List Link) (value amount end : ℕ) →
-    IsFlow n inside outside arcs links value → IsUnderWay n inside outside arcs links value amount end end
-IsUnderWay-start n inside outside arcs links value amount end flow = record { sent = λ X sep. omega (arith, flow.sent X sep) }
-
 pub IsUnderWay-pushed : (n : ℕ) (inside outside : List Bool) (arcs : List Cap) (links : List Link) (value amount end : ℕ) (s : Step) →
     s.link < length links → amount ≤ room_at links s →
     IsUnderWay n inside outside arcs links value amount end (to_at links s) →
     IsUnderWay n inside outside arcs (pushed links s amount) value amount end (from_at links s)
 IsUnderWay-pushed n inside outside arcs links value amount end s lt le way = record {
   sent = λ X sep. omega (arith, way.sent X sep, room_leaving-pushed X links s amount lt le);
-}
-
-pub IsFlow-arrived : (n : ℕ) (inside outside : List Bool) (arcs : List Cap) (links : List Link) (value amount end v : ℕ) →
-    IsUnderWay n inside outside arcs links value amount end v → has inside v ≡ true → has outside end ≡ true →
-    IsFlow n inside outside arcs links (value + amount)
-IsFlow-arrived n inside outside arcs links value amount end v way from to = record {
-  sent = λ X sep.
-      let a : at_outside (has X v) amount ≡ 0 = ap (λ b. at_outside b amount) (sep.holds v from) in
-      let b : at_outside (has X end) amount ≡ amount = ap (λ b. at_outside b amount) (sep.misses end to) in
-      omega (arith, way.sent X sep, a, b);
 }

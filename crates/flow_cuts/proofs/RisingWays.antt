@@ -1,15 +1,14 @@
 -- Ways by growing levels, and a mark that changes at the end of one.
-use Rattle.std.proofs.Common.{◌≡◌, ◌∙◌, ℕ, suc, zero, ◌+◌, ◌<◌, ◌≤◌, List, length, Bool, true, cond, refl, sym, ap, subst, arith, inl, inr}
-use Rattle.std.specs.Prelude.{slice_set, min, count_by}
+use Rattle.std.proofs.Common.{◌≡◌, ◌∙◌, ℕ, suc, zero, ◌+◌, ◌<◌, ◌≤◌, List, length, Bool, true, refl, sym, ap, subst, arith, inl, inr}
+use Rattle.std.specs.Prelude.{slice_set, min}
 use Rattle.std.proofs.Math.ListN.{length-set}
-use Rattle.std.proofs.lemmas.List.Sums.{sum_by-set}
 use Rattle.flow_cuts.specs.declared.network.Link.{Link}
 use Rattle.flow_cuts.specs.declared.network.Step.{Step}
 use Rattle.flow_cuts.specs.declared.search.Mark.{Mark}
 use Rattle.flow_cuts.specs.Residual.{from_at, to_at, room_at}
 use Rattle.graph_core.specs.Side.{has}
-use Rattle.flow_cuts.specs.Search.{unseen, no_mark, mark_at, is_seen, IsOpenWay, IsNarrowWay, IsLevelled, IsLedTo, IsSearched}
-use Rattle.flow_cuts.proofs.SearchTrees.{eq_or_not, set_at, set_off, as_one, is_seen-of, is_seen-not}
+use Rattle.flow_cuts.specs.Search.{unseen, mark_at, IsOpenWay, IsNarrowWay, IsLevelled, IsSearched}
+use Rattle.flow_cuts.proofs.SearchTrees.{eq_or_not, set_at, set_off}
 
 narrow_level : (ls : List Link) (inside : List Bool) (ms : List Mark) (k v : ℕ) → IsNarrowWay ls inside ms k v → (mark_at ms v).level ≡ k
 narrow_level ls inside ms zero v way = way.0
@@ -65,32 +64,6 @@ IsNarrowWay-on ls inside ms k v w s m way link from to room lt level is via narr
     subst Q one (subst P (sym here)
     (omega arith, omega (arith, link'), ap (to_at ls) via ∙ to, omega (arith, room'), omega (arith, up, up'), omega arith, subst R (sym from') before))
 
--- marks of a reached node that keep its level
-pub IsLedTo-set : (ms : List Mark) (w : ℕ) (m : Mark) → w < length ms → m.level ≡ (mark_at ms w).level → 0 < m.level → IsLedTo ms (slice_set ms w m) w
-IsLedTo-set ms w m lt same pos = record {
-  len = length-set ms w m;
-  level = λ v. elim (eq_or_not v w) [
-    | inl e ↦ ap (λ x. x.level) (set_at ms w v m lt e) ∙ same ∙ ap (λ x. (mark_at ms x).level) (sym e)
-    | inr e ↦ ap (λ x. x.level) (set_off ms w v m lt e)
-  ];
-  alive =
-      let all = sum_by-set (λ x. cond (is_seen x) 1 0) ms w m no_mark lt in
-      let test : as_one (is_seen m) ≡ as_one (is_seen (mark_at ms w)) = ap (λ l. as_one (is_seen (record no_mark { level = l }))) same in
-      omega (arith, all, test);
-  roots = λ v zero_level. set_off ms w v m lt (λ e. let d = ap (λ x. (mark_at ms x).level) e in omega arith);
-}
-
-pub IsLevelled-led : (n : ℕ) (inside : List Bool) (ms ms' : List Mark) (w : ℕ) → IsLevelled n inside ms → IsLedTo ms ms' w → IsLevelled n inside ms'
-IsLevelled-led n inside ms ms' w l led = record {
-  len = led.len ∙ l.len;
-  roots = λ v e.
-      let was : (mark_at ms v).level ≡ 0 = sym (led.level v) ∙ e in
-      let same = ap (λ m. m.narrow) (led.roots v was) in
-      let r = l.roots v was in
-      (r.0, omega (arith, r.1));
-  low = λ v lt. omega (arith, led.level v, l.low v (omega (arith, led.level v)));
-}
-
 -- a node that leads no further is as if it were not reached
 pub IsLevelled-dead : (n : ℕ) (inside : List Bool) (ms : List Mark) (w : ℕ) (m : Mark) → IsLevelled n inside ms → w < length ms → m.level ≡ unseen →
     IsLevelled n inside (slice_set ms w m)
@@ -109,14 +82,6 @@ IsLevelled-dead n inside ms w m l lt dead = record {
     | inr off ↦ let d = ap (λ x. x.level) (set_off ms w v m lt off) in omega (arith, l.low v (omega arith))
   ];
 }
-
-pub alive-dead : (ms : List Mark) (w : ℕ) (m : Mark) → w < length ms → (mark_at ms w).level < unseen → m.level ≡ unseen →
-    count_by is_seen (slice_set ms w m) + 1 ≡ count_by is_seen ms
-alive-dead ms w m lt seen dead =
-    let all = sum_by-set (λ x. cond (is_seen x) 1 0) ms w m no_mark lt in
-    let old : as_one (is_seen (mark_at ms w)) ≡ 1 = ap as_one (is_seen-of (mark_at ms w) seen) in
-    let new : as_one (is_seen m) ≡ 0 = ap as_one (is_seen-not m dead) in
-    omega (arith, all, old, new)
 
 -- the way from the inside to a node that is not a root, without its last step
 pub record ComesFrom (ls : List Link) (inside : List Bool) (ms : List Mark) (v : ℕ) (s : Step) : Type 0 where
@@ -145,30 +110,6 @@ pub record IsDraining (inside : List Bool) (ls : List Link) (ms : List Mark) (v 
   pub node : v < length inside
   pub seen : (mark_at ms v).level < unseen
   pub way : IsNarrowWay ls inside ms (mark_at ms v).level v
-
-pub IsDraining-root : (inside : List Bool) (ls : List Link) (ms : List Mark) (root : ℕ) → IsLevelled (length inside) inside ms → root < length inside →
-    (mark_at ms root).level ≡ 0 → IsDraining inside ls ms root
-IsDraining-root inside ls ms root l lt level = record {
-  levelled = l;
-  node = lt;
-  seen = omega arith;
-  way =
-      let P : ℕ → Type 0 = λ k. IsNarrowWay ls inside ms k root in
-      let r = l.roots root level in
-      subst P (sym level) (level, r.0, r.1);
-}
-
-pub IsDraining-on : (inside : List Bool) (ls : List Link) (ms ms' : List Mark) (v w : ℕ) → IsDraining inside ls ms v → IsLedTo ms ms' w → w < length ms →
-    (mark_at ms' w).level ≡ (mark_at ms v).level + 1 →
-    ((inside : List Bool) → IsNarrowWay ls inside ms (mark_at ms v).level v → IsNarrowWay ls inside ms' ((mark_at ms v).level + 1) w) → IsDraining inside ls ms' w
-IsDraining-on inside ls ms ms' v w d led lt level on = record {
-  levelled = IsLevelled-led (length inside) inside ms ms' w d.levelled led;
-  node = omega (arith, d.levelled.len);
-  seen = omega (arith, d.levelled.low v d.seen);
-  way =
-      let P : ℕ → Type 0 = λ k. IsNarrowWay ls inside ms' k w in
-      subst P (sym level) (on inside d.way);
-}
 
 pub IsDraining-back : (inside : List Bool) (ls : List Link) (ms : List Mark) (v : ℕ) (s : Step) (m : Mark) → ((t : Step) → t.link < length ls → from_at ls t < length inside) →
     IsDraining inside ls ms v → ComesFrom ls inside ms v s → m.level ≡ unseen → IsDraining inside ls (slice_set ms v m) (from_at ls s)

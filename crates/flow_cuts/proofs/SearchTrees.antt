@@ -1,6 +1,6 @@
 -- One node more in a tree.
 use Rattle.std.proofs.Common.{◌≡◌, ◌≢◌, ◌∙◌, ℕ, suc, zero, ◌+◌, ◌<◌, ◌≤◌, List, [], ◌∷◌, length, get_or, Bool, true, false, cond, refl, sym, ap, subst, arith, inl, inr, get_or-set_other, get_or-set_same}
-use Rattle.std.specs.Prelude.{slice_index_or, slice_index, slice_set, count_by, ◌⊎◌, min}
+use Rattle.std.specs.Prelude.{slice_index, slice_set, count_by, ◌⊎◌, min}
 use Rattle.std.proofs.Math.ListN.{set, length-set}
 use Rattle.std.proofs.lemmas.Grind.{common_steps, elements}
 use Rattle.std.proofs.lemmas.List.Sums.{sum_by-set, count_by-le-length}
@@ -112,14 +112,6 @@ IsFilled-add n ms q c v m f lt un le seen =
       seen = λ k h. seen_add ms q c v k m lt place un seen f.seen h;
     }
 
-pub Grows-add : (n : ℕ) (ms : List Mark) (q : List ℕ) (c v : ℕ) (m : Mark) → IsFilled n ms q c → v < length ms → (mark_at ms v).level ≡ unseen →
-    Grows ms q c (slice_set ms v m) (slice_set q c v) (c + 1)
-Grows-add n ms q c v m f lt un = record {
-  more = omega arith;
-  seen = λ w h. kept_seen ms v w w m lt un refl h;
-  places = λ k h. get_or-set_other q c k v 0 (omega arith);
-}
-
 IsReached-add : (ls : List Link) (inside : List Bool) (ms : List Mark) (v w : ℕ) (m x : Mark) → v < length ms → (mark_at ms v).level ≡ unseen →
     x.level < unseen → IsReached ls inside ms w x → IsReached ls inside (slice_set ms v m) w x
 IsReached-add ls inside ms v w m x lt un seen r =
@@ -176,33 +168,8 @@ IsSearchForest-step ls ms s v m link room from via level narrow to lt un seen in
 pub read_mark : (ms : List Mark) (v : ℕ) (x : Mark) → v < length ms → x ≡ get_or ms v x → x ≡ mark_at ms v
 read_mark ms v x lt e = e ∙ grind (arith, elements)
 
-pub Grows-refl : (ms : List Mark) (q : List ℕ) (c : ℕ) → Grows ms q c ms q c
-Grows-refl ms q c = record { more = omega arith; seen = λ v h. h; places = λ k h. refl }
-
-pub Grows-trans : (ms : List Mark) (q : List ℕ) (c : ℕ) (ms' : List Mark) (q' : List ℕ) (c' : ℕ) (ms'' : List Mark) (q'' : List ℕ) (c'' : ℕ) →
-    Grows ms q c ms' q' c' → Grows ms' q' c' ms'' q'' c'' → Grows ms q c ms'' q'' c''
-Grows-trans ms q c ms' q' c' ms'' q'' c'' a b = record {
-  more = omega (arith, a.more, b.more);
-  seen = λ v h. b.seen v (a.seen v h);
-  places = λ k h. b.places k (omega (arith, a.more)) ∙ a.places k h;
-}
-
 pub any_default : {A : Type 0} (xs : List A) (i : ℕ) (d d' : A) → i < length xs → get_or xs i d ≡ get_or xs i d'
 any_default xs i d d' lt = grind (arith, elements)
-
--- the step at place i is looked at too, and what was seen is seen still
-pub IsLookedAt-more : (ls : List Link) (ms ms' : List Mark) (row : List Step) (i : ℕ) (s : Step) → IsLookedAt ls ms row i →
-    ((v : ℕ) → (mark_at ms v).level < unseen → (mark_at ms' v).level < unseen) → i < length row → s ≡ slice_index_or row i s →
-    (0 < room_at ls s → (mark_at ms' (to_at ls s)).level < unseen) → IsLookedAt ls ms' row (i + 1)
-IsLookedAt-more ls ms ms' row i s old kept lt e new = record {
-  at = λ j x h is room. elim (eq_or_not j i) [
-    | inl same ↦
-        let is' : s ≡ x = e ∙ any_default row i s x lt ∙ ap (λ k. get_or row k x) (sym same) ∙ is in
-        let P : Step → Type 0 = λ y. 0 < room_at ls y → (mark_at ms' (to_at ls y)).level < unseen in
-        subst P is' new room
-    | inr other ↦ kept (to_at ls x) (old.at j x (omega arith) is room)
-  ];
-}
 
 pub IsFilled-none : (n : ℕ) (ms : List Mark) (q : List ℕ) → length ms ≡ n → length q ≡ n → ((v : ℕ) → (mark_at ms v).level ≡ unseen) → IsFilled n ms q 0
 IsFilled-none n ms q m l none = record {
@@ -239,9 +206,6 @@ IsRow-of n ls rows ms v net seen = record {
       let e : (mark_at ms (from_at ls s)).level ≡ (mark_at ms v).level = ap (λ w. (mark_at ms w).level) (net.leads v k s lt is).1 in
       omega arith;
 }
-
-pub IsDone-none : (ls : List Link) (rows : List (List Step)) (ms : List Mark) (q : List ℕ) → IsDone ls rows ms q 0
-IsDone-none ls rows ms q = record { at = λ k h. absurd (omega arith) }
 
 IsLookedAt-kept : (ls : List Link) (ms ms' : List Mark) (row : List Step) (k : ℕ) → IsLookedAt ls ms row k →
     ((v : ℕ) → (mark_at ms v).level < unseen → (mark_at ms' v).level < unseen) → IsLookedAt ls ms' row k

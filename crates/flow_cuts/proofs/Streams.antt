@@ -101,15 +101,6 @@ IsTakenFrom-step n inside outside sent r end s lt room old = record {
   surplus = λ X sep. omega (arith, old.surplus X sep, room_leaving-taken X sent s lt room);
 }
 
-pub IsStream-arrived : (n : ℕ) (inside outside : List Bool) (sent : List Link) (r end v : ℕ) → IsTakenFrom n inside outside sent (r + 1) end v →
-    has inside v ≡ true → has outside end ≡ true → IsStream n inside outside sent r
-IsStream-arrived n inside outside sent r end v old from to = record {
-  surplus = λ X sep.
-      let a : at_outside (has X v) 1 ≡ 0 = ap (λ b. at_outside b 1) (sep.holds v from) in
-      let b : at_outside (has X end) 1 ≡ 1 = ap (λ b. at_outside b 1) (sep.misses end to) in
-      omega (arith, old.surplus X sep, a, b);
-}
-
 -- a closed side that separates shows that nothing more is sent
 pub nothing_sent : (n : ℕ) (inside outside : List Bool) (sent : List Link) (r : ℕ) → IsStream n inside outside sent r →
     (X : List Bool) → Separates n inside outside X → IsClosedSide X sent → r ≡ 0

@@ -19,8 +19,8 @@ use Rattle.flow_cuts.specs.LinkWalks.{Joins, IsLinkWalk, AreLinkWalks, AreUnits}
 use Rattle.flow_cuts.specs.Search.{IsSearched, IsMissed, is_seen}
 use Rattle.flow_cuts.proofs.ExtremeSides.{Separates-reached, IsClosedSide-reached, IsReachedSet-map}
 use Rattle.flow_cuts.proofs.SearchTrees.{eq_or_not}
-use Rattle.flow_cuts.proofs.OpenWays.{HasLastStep, IsOpenWay-kept, SameEnds-trans, SameEnds-refl}
-use Rattle.flow_cuts.proofs.Streams.{SameEnds-taken, IsLess-taken, IsLess-refl, IsLess-trans, both_at-here, both_at-off, room_at-kept, IsTakenFrom, IsTakenFrom-start, IsTakenFrom-step, nothing_sent}
+use Rattle.flow_cuts.proofs.OpenWays.{HasLastStep, IsOpenWay-kept, SameEnds-trans}
+use Rattle.flow_cuts.proofs.Streams.{SameEnds-taken, IsLess-taken, IsLess-trans, both_at-here, both_at-off, room_at-kept, IsTakenFrom, IsTakenFrom-step, nothing_sent}
 
 -- from v on the walk to the end is taken, and the list has its links, the last one first
 pub record IsTaking (inside : List Bool) (ms : List Mark) (end : ℕ) (old new : List Link) (v : ℕ) (back : List ℕ) : Type 0 where
@@ -31,18 +31,6 @@ pub record IsTaking (inside : List Bool) (ms : List Mark) (end : ℕ) (old new :
   pub once : (j : ℕ) → occurrences j back + both_at new j ≡ both_at old j
   pub surplus : (outside : List Bool) (r : ℕ) → IsStream (length inside) inside outside old r → IsTakenFrom (length inside) inside outside new r end v
   pub walk : IsLinkWalk old v end (reverse back)
-
-pub IsTaking-start : (inside : List Bool) (ms : List Mark) (end : ℕ) (old : List Link) → end < length inside → IsOpenWay old inside ms 1 (mark_at ms end).level end →
-    IsTaking inside ms end old old end []
-IsTaking-start inside ms end old lt way = record {
-  node = lt;
-  way = way;
-  ends = SameEnds-refl old;
-  less = IsLess-refl old;
-  once = λ j. omega arith;
-  surplus = λ outside r s. IsTakenFrom-start (length inside) inside outside old r end s;
-  walk = refl;
-}
 
 pub same_test : (a b : ℕ) → a ≡ b → (a == b) ≡ true
 same_test a b e = grind arith
@@ -126,17 +114,6 @@ pub record IsSplit (n : ℕ) (inside outside : List Bool) (old new : List Link) 
   pub once : (j : ℕ) → sum_by (occurrences j) walks + both_at new j ≤ 1
   pub number : length walks ≡ count
   pub each : (s t : ℕ) → IsOnly inside s → IsOnly outside t → All (IsLinkWalk old s t) walks
-
-pub IsSplit-start : (n : ℕ) (inside outside : List Bool) (old : List Link) (r : ℕ) → IsStream n inside outside old r → ((j : ℕ) → both_at old j ≤ 1) →
-    IsSplit n inside outside old old r 0 []
-IsSplit-start n inside outside old r stream units = record {
-  ends = SameEnds-refl old;
-  less = IsLess-refl old;
-  stream = stream;
-  once = λ j. omega (arith, units j);
-  number = refl;
-  each = λ s t a b k d lt. absurd (omega arith);
-}
 
 all_one : (P : List ℕ → Type 0) (w : List ℕ) → P w → (k : ℕ) (d : List ℕ) → k < length (w ∷ []) → P (slice_index_or (w ∷ []) k d)
 all_one P w new zero d lt = new

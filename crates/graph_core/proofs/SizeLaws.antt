@@ -1,7 +1,7 @@
 -- Counts over lists, and sizes of sides.
 use Rattle.std.proofs.Common.{ℕ, zero, suc, ◌≡◌, ◌+◌, ◌<◌, ◌≤◌, Bool, true, false, cond, ◌⊎◌, inl, inr, List, [], ◌∷◌, length, count_by, replicate, refl, ap, arith, ⊎_elim}
 use Rattle.std.specs.List.{range_with_len, sum_by}
-use Rattle.std.proofs.lemmas.Bool.{cases_eq, both_ways}
+use Rattle.std.proofs.lemmas.Bool.{cases_eq}
 use Rattle.std.proofs.lemmas.List.Sums.{sum_by-cons}
 use Rattle.graph_core.proofs.Counting.{weight}
 use Rattle.graph_core.specs.Side.{has, size}
@@ -15,12 +15,6 @@ weight_false b e = ap weight e
 pub weight_most : (b : Bool) → weight b ≤ 1
 weight_most true = omega arith
 weight_most false = omega arith
-
--- a test that follows from others
-pub weight_le : (a b : Bool) → (a ≡ true → b ≡ true) → weight a ≤ weight b
-weight_le false b h = omega arith
-weight_le true true h = omega arith
-weight_le true false h = absurd (both_ways false refl (h refl))
 
 module _ {X : Type 0} where
   pub count-cons : (p : X → Bool) (x : X) (xs : List X) → count_by p (x ∷ xs) ≡ weight (p x) + count_by p xs

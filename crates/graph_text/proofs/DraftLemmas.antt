@@ -11,9 +11,9 @@ use Rattle.std.proofs.lemmas.List.Sums.{AllPass-from_list_all, list_all-from_All
 use Rattle.std.proofs.lemmas.List.Quantifiers.{position-Some, all_pairs_push}
 use Rattle.std.proofs.lemmas.Slice.Eq.{bytes_eq-Decides}
 use Rattle.graph_core.specs.Name.{IsName, is_name_byte}
-use Rattle.graph_core.specs.Graph.{Fits, IsGraph}
+use Rattle.graph_core.specs.Graph.{Fits}
 use Rattle.graph_core.specs.declared.graph.Kind.{Kind}
-use Rattle.graph_core.specs.declared.graph.Kind.TheVariants.{Undirected, Directed}
+use Rattle.graph_core.specs.declared.graph.Kind.TheVariants.{Directed}
 use Rattle.graph_core.specs.declared.graph.Line.{Line}
 use Rattle.graph_text.specs.Cause.{is_name}
 use Rattle.graph_text.specs.DraftView.{AreParts}
@@ -79,21 +79,3 @@ Fits-found names a b line tail head apart = record {
       let equal : a ≡ b = sym (name_at names a line.tail tail) ∙ ap (λ i. get_or names i []) same ∙ name_at names b line.head head in
       true≢false (sym ((bytes_eq-Decides a b).1 equal) ∙ apart);
 }
-
--- what was read is a graph
-pub IsGraph-parts : (kind : Kind) (declared : Option Kind) (names : List (List ℕ)) (lines : List Line) → AreParts declared names lines → declared ≡ Some kind → 0 < length names → IsGraph (record { kind = kind; names = names; lines = lines })
-IsGraph-parts kind declared names lines parts is some = record {
-  makes = record {
-    some = omega (arith, some);
-    nodes = omega (arith, parts.few);
-    few = omega (arith, parts.few_lines);
-    distinct = parts.distinct;
-    ends = parts.within;
-    free = λ undirected. λ k d within. by (get_or lines k d).fixed undirected (parts.free k d within);
-  };
-  named = parts.named;
-}
-  where
-    by : (fixed : Bool) → kind ≡ Undirected → (fixed ≡ true → declared ≡ Some Directed) → fixed ≡ false
-    by true undirected free = let directed = free refl in cc
-    by false undirected free = refl

@@ -1,9 +1,9 @@
 -- Classes as trees of parents.
-use Rattle.std.proofs.Common.{ℕ, ◌≡◌, ◌≢◌, ◌+◌, ◌<◌, ◌≤◌, ◌⊎◌, inl, inr, true, ◌&&◌, List, [], ◌∷◌, length, get_or, set, count_by, refl, sym, ap, ◌∙◌, arith, ⊎_elim, subst}
+use Rattle.std.proofs.Common.{ℕ, ◌≡◌, ◌≢◌, ◌<◌, ◌⊎◌, inl, inr, true, ◌&&◌, List, [], ◌∷◌, length, get_or, set, count_by, refl, sym, ap, ◌∙◌, arith, ⊎_elim, subst}
 use Rattle.std.specs.Prelude.{nat_lt, All}
 use Rattle.std.proofs.lemmas.Bool.{cases_eq, and_from, not_from_true, lt-ltb}
 use Rattle.std.proofs.lemmas.List.Elements.{All-head, All-tail}
-use Rattle.std.proofs.lemmas.List.{length-set, get_or-set_same, get_or-set_other}
+use Rattle.std.proofs.lemmas.List.{get_or-set_same, get_or-set_other}
 use Rattle.graph_core.specs.declared.graph.Line.{Line}
 use Rattle.graph_core.specs.Graph.{Fits}
 use Rattle.graphic_matroid.specs.Labels.{unfit, joined, Adds}
@@ -15,53 +15,6 @@ use Rattle.graphic_matroid.specs.ForestLaws.{labels_none, finest_none, finest_mo
 -- a write, read back
 at_set : (xs : List ℕ) (i v k : ℕ) → i < length xs → k ≡ i → get_or (set xs i v) k 0 ≡ v
 at_set xs i v k l e = ap (λ x. get_or (set xs i v) x 0) e ∙ get_or-set_same xs i v 0 l
-
--- a root of less rank gets a parent
-pub roots_linked : (n : ℕ) (parents ranks : List ℕ) (low high : ℕ) → AreRoots n parents ranks → low < n → high < n → get_or ranks low 0 < get_or ranks high 0 → AreRoots n (set parents low high) ranks
-roots_linked n parents ranks low high w ll lh less =
-    let short : low < length parents = rw w.parents_long ll in
-    record {
-      parents_long = length-set parents low high ∙ w.parents_long;
-      ranks_long = w.ranks_long;
-      inside = λ v l. ⊎_elim
-          (λ e. rw (at_set parents low high v short e) lh)
-          (λ ne. rw (get_or-set_other parents low v high 0 ne) (w.inside v l))
-          (cases_eq v low);
-      ranked = λ v l moves. ⊎_elim
-          (λ e. rw (at_set parents low high v short e) (subst (λ x. get_or ranks x 0 < get_or ranks high 0) (sym e) less))
-          (λ ne.
-          let same : get_or (set parents low high) v 0 ≡ get_or parents v 0 = get_or-set_other parents low v high 0 ne in
-          rw same (w.ranked v l (λ e. moves (same ∙ e))))
-          (cases_eq v low);
-    }
-
--- a root gets a greater rank
-pub roots_raised : (n : ℕ) (parents ranks : List ℕ) (a more : ℕ) → AreRoots n parents ranks → a < n → get_or parents a 0 ≡ a → get_or ranks a 0 ≤ more → AreRoots n parents (set ranks a more)
-roots_raised n parents ranks a more w la root up =
-    let short : a < length ranks = rw w.ranks_long la in
-    let grown : (v : ℕ) → get_or ranks v 0 ≤ get_or (set ranks a more) v 0 = λ v. ⊎_elim
-    (λ e. rw (at_set ranks a more v short e) (subst (λ x. get_or ranks x 0 ≤ more) (sym e) up))
-    (λ ne. rw (get_or-set_other ranks a v more 0 ne) (omega arith))
-    (cases_eq v a) in
-    record {
-      parents_long = w.parents_long;
-      ranks_long = length-set ranks a more ∙ w.ranks_long;
-      inside = w.inside;
-      ranked = λ v l moves.
-          let apart : v ≢ a = λ e. moves (ap (λ x. get_or parents x 0) e ∙ root ∙ sym e) in
-          let same : get_or (set ranks a more) v 0 ≡ get_or ranks v 0 = get_or-set_other ranks a v more 0 apart in
-          let less = w.ranked v l moves in
-          let above = grown (get_or parents v 0) in
-          omega arith;
-    }
-
--- the ranks stay low
-pub rank_raised : (ranks : List ℕ) (a more v : ℕ) → a < length ranks → more ≤ get_or ranks a 0 + 1 → get_or (set ranks a more) v 0 ≤ get_or ranks v 0 + 1
-rank_raised ranks a more v l up =
-    ⊎_elim
-    (λ e. rw (at_set ranks a more v l e) (subst (λ x. more ≤ get_or ranks x 0 + 1) (sym e) up))
-    (λ ne. rw (get_or-set_other ranks a v more 0 ne) (omega arith))
-    (cases_eq v a)
 
 -- each node alone
 pub classes_none : (n : ℕ) (parents : List ℕ) → ((v : ℕ) → v < n → get_or parents v 0 ≡ v) → AreClasses n parents []

@@ -1,5 +1,5 @@
 -- One step of an exchange along a path.
-use Rattle.std.proofs.Common.{ℕ, suc, ◌≡◌, ◌≢◌, ◌+◌, ◌<◌, ◌≤◌, Bool, true, false, not, cond, eqb, ◌&&◌, ◌||◌, List, length, get_or, set, Option, Some, None, sym, refl, ap, ◌∙◌, arith, ⊎_elim, subst}
+use Rattle.std.proofs.Common.{ℕ, suc, ◌≡◌, ◌≢◌, ◌<◌, ◌≤◌, Bool, true, false, not, cond, eqb, ◌&&◌, ◌||◌, List, length, get_or, set, Option, Some, None, sym, refl, ap, ◌∙◌, arith, ⊎_elim, subst}
 use Rattle.std.proofs.lemmas.Bool.{cases_eq, both_ways, eq-eqb, ne_eqb, eqb-true}
 use Rattle.std.proofs.lemmas.List.{get_or-set_same, get_or-set_other}
 use Rattle.std.proofs.lemmas.List.Sums.{sum_by-set}
@@ -235,12 +235,6 @@ pub spare_kept : (owner : List (Option ℕ)) (e to s : ℕ) → e < length owner
 spare_kept owner e to s l h =
     let both = sum_by-set (λ o. cond (is_none o) 1 0) owner e (Some to) None l in
     let was : unit (get_or owner e None) ≡ 0 = ap unit h in
-    omega arith
-
-pub spare_fewer : (owner : List (Option ℕ)) (e to : ℕ) → e < length owner → get_or owner e None ≡ None → spare (set owner e (Some to)) + 1 ≡ spare owner
-spare_fewer owner e to l h =
-    let both = sum_by-set (λ o. cond (is_none o) 1 0) owner e (Some to) None l in
-    let was : unit (get_or owner e None) ≡ 1 = ap unit h in
     omega arith
 
 -- a step of the walk back along the path: element e, the last one, goes to part to

@@ -8,7 +8,7 @@ use Rattle.problem_defs.specs.Arborescences as arborescences
 use Rattle.problem_defs.specs.Flow.{Suits}
 use Rattle.problem_defs.specs.Forests as forests
 use Rattle.problem_defs.specs.Trees as trees
-use Rattle.problem_defs.specs.declared.ask.Ask.TheVariants.{Flow, CutTree, Arborescences, Trees, Forests}
+use Rattle.problem_defs.specs.declared.ask.Ask.TheVariants.{Flow, Arborescences, Trees, Forests}
 use Rattle.problem_defs.specs.declared.ask.Misfit.{Misfit}
 use Rattle.problem_defs.specs.declared.ask.Misfit.TheVariants.{Node, Same, Small, Kind as WrongKind}
 
@@ -30,9 +30,6 @@ flow_suits g s t none =
 undirected-of : (kind : Kind) (rest : Option Misfit) → cond (is_directed kind) (Some WrongKind) rest ≡ None → kind ≡ Undirected
 undirected-of Undirected rest none = refl
 undirected-of Directed rest none = absurd cc
-
-pub cut_tree_suits : (g : GraphValue) → misfit_of g CutTree ≡ None → g.kind ≡ Undirected
-cut_tree_suits g none = undirected-of g.kind None none
 
 directed-of : (kind : Kind) (rest : Option Misfit) → cond (not (is_directed kind)) (Some WrongKind) rest ≡ None → kind ≡ Directed
 directed-of Undirected rest none = absurd cc
