@@ -47,21 +47,21 @@ module _ (own : ℕ → Option ℕ) (e to : ℕ) where
   moved_off : (k : ℕ) → k ≢ e → moved own e to k ≡ own k
   moved_off k h = rw (ne_eqb k e h) refl
 
-  part_to : part (moved own e to) to ≡ plus (part own to) e
+  pub part_to : part (moved own e to) to ≡ plus (part own to) e
   part_to = λ t k. at k (eqb k e) t
     where
       at : (k : ℕ) (b : Bool) → holds (cond b (Some to) (own k)) to ≡ (holds (own k) to || b)
       at k true = eq-eqb to to refl ∙ sym (or_true (holds (own k) to))
       at k false = sym (or_false (holds (own k) to))
 
-  part_from : (r : ℕ) → r ≢ to → part (moved own e to) r ≡ minus (part own r) e
+  pub part_from : (r : ℕ) → r ≢ to → part (moved own e to) r ≡ minus (part own r) e
   part_from r ne = λ t k. at k (eqb k e) t
     where
       at : (k : ℕ) (b : Bool) → holds (cond b (Some to) (own k)) r ≡ (holds (own k) r && not b)
       at k true = ne_eqb to r (λ h. ne (sym h)) ∙ sym (and_false (holds (own k) r))
       at k false = sym (and_true (holds (own k) r))
 
-minus_same : (f : ℕ → Bool) (e : ℕ) → f e ≡ false → minus f e ≡ f
+pub minus_same : (f : ℕ → Bool) (e : ℕ) → f e ≡ false → minus f e ≡ f
 minus_same f e h = λ t k. at k t
   where
     at : (k : ℕ) → minus f e k ≡ f k

@@ -4,8 +4,7 @@ pub mod Exchanges
 pub mod Chain
 pub mod Kept
 pub mod SearchLaws
-pub mod Alike
 pub mod ScanLaws
 pub mod Rows
-pub mod PartSizes
-pub mod Ranks
+pub mod Filled
+pub mod KeptSets

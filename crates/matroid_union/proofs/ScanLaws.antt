@@ -8,7 +8,6 @@ use Rattle.matroid_union.specs.Matroid.{IsMatroid}
 use Rattle.matroid_union.specs.Sets.{set_of, plus, swap}
 use Rattle.matroid_union.specs.Parts.{part, kept}
 use Rattle.matroid_union.specs.Search.{Begins, IsShut, IsFull, IsSearch}
-use Rattle.matroid_union.proofs.Kept.{kept_all}
 use Rattle.matroid_union.proofs.SearchLaws.{mark_old, full_more, search_push, begins_push}
 
 -- what stands after an element joined the queue
@@ -26,10 +25,6 @@ module _ (n : ℕ) (free : List Bool → Type 0) (m : IsMatroid n free) (k : ℕ
       let b = s.reached_long in
       let c : size reached ≤ length reached = count_by-le-length (λ x. x) reached in
       omega arith
-
-  -- a part that can't take x beside all its elements
-  pub shut_kept : (reached : List Bool) (p x : ℕ) → IsShut n free k own x → p < k → part own p x ≡ false → free (set_of n (plus (kept own reached p 0) x)) → ⊥
-  shut_kept reached p x s lp out w = s p lp out (kept_all n free m own reached p x w)
 
   -- in a queue that begins with an older one
   pub shut_still : (older newer : List ℕ) (i : ℕ) → Begins older newer → i < length older → IsShut n free k own (get_or older i 0) → IsShut n free k own (get_or newer i 0)

@@ -1,5 +1,5 @@
 -- The laws of free sets.
-use Rattle.std.specs.Prelude.{◌≡◌, ℕ, ◌<◌, ◌≤◌, Bool, true, false, List, length, replicate, slice_set}
+use Rattle.std.specs.Prelude.{◌≡◌, ℕ, ◌<◌, Bool, true, false, List, length, replicate, slice_set}
 use Rattle.graph_core.specs.Side.{has, size}
 
 -- a member of B that isn't in A, and that A can take and stay free
@@ -23,11 +23,3 @@ pub record IsAlike (n : ℕ) (free : List Bool → Type 0) (n' : ℕ) (free' : L
   pub count : n ≡ n'
   pub forth : (X : List Bool) → free X → free' X
   pub back : (X : List Bool) → free' X → free X
-
--- the most members that a free set has, and one that has as many
-pub record IsRank (n : ℕ) (free : List Bool → Type 0) (rank : ℕ) : Type 0 where
-  pub base : List Bool
-  pub long : length base ≡ n
-  pub stays : free base
-  pub members : size base ≡ rank
-  pub most : (X : List Bool) → length X ≡ n → free X → size X ≤ rank

@@ -2,7 +2,7 @@
 use Rattle.std.specs.Prelude.{◌≡◌, ℕ, ◌<◌, ◌==◌, nat_le, Bool, false, cond, ◌&&◌, ◌||◌, List, map, slice_index_or, count_by, Option, Some, None}
 use Rattle.std.specs.List.{filter, range_with_len}
 use Rattle.std.specs.Option.{is_none}
-use Rattle.graph_core.specs.Side.{has, size}
+use Rattle.graph_core.specs.Side.{has}
 use Rattle.matroid_union.specs.Sets.{set_of, plus, swap}
 
 -- whether part p is meant
@@ -63,15 +63,3 @@ members n own p = filter (part own p) (range_with_len 0 n)
 -- the rows of k parts
 abbrev pub rows_of : ℕ → (ℕ → Option ℕ) → ℕ → List (List ℕ)
 rows_of n own k = map (members n own) (range_with_len 0 k)
-
--- how many elements below n part p has
-abbrev pub part_size : ℕ → (ℕ → Option ℕ) → ℕ → ℕ
-part_size n own p = size (set_of n (part own p))
-
--- the sizes of k parts
-abbrev pub sizes_of : ℕ → (ℕ → Option ℕ) → ℕ → List ℕ
-sizes_of n own k = map (part_size n own) (range_with_len 0 k)
-
--- which of k parts have so many elements or more
-abbrev pub full_of : ℕ → (ℕ → Option ℕ) → ℕ → ℕ → List Bool
-full_of n own most k = set_of k (λ p. nat_le most (part_size n own p))

@@ -19,10 +19,6 @@ pub record Begins (older newer : List ℕ) : Type 0 where
 abbrev pub IsShut : ℕ → (List Bool → Type 0) → ℕ → (ℕ → Option ℕ) → ℕ → Type 0
 IsShut n free k own x = (p : ℕ) → p < k → part own p x ≡ false → free (set_of n (plus (part own p) x)) → ⊥
 
--- part p can take no element below n that it hasn't
-abbrev pub IsClosed : ℕ → (List Bool → Type 0) → (ℕ → Option ℕ) → ℕ → Type 0
-IsClosed n free own p = (x : ℕ) → x < n → part own p x ≡ false → free (set_of n (plus (part own p) x)) → ⊥
-
 -- no part below k can take x beside its reached elements
 abbrev pub IsFull : ℕ → (List Bool → Type 0) → ℕ → (ℕ → Option ℕ) → List Bool → ℕ → Type 0
 IsFull n free k own reached x = (p : ℕ) → p < k → part own p x ≡ false → free (set_of n (plus (kept own reached p n) x)) → ⊥

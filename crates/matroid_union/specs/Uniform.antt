@@ -47,7 +47,7 @@ size-subset (a ∷ A) (b ∷ B) e h =
     first_le true true i = omega arith
     first_le true false i = absurd (both_ways false refl (i refl))
 
-size-none : (n : ℕ) → size (replicate n false) ≡ 0
+pub size-none : (n : ℕ) → size (replicate n false) ≡ 0
 size-none zero = refl
 size-none (suc n) = omega (arith, size-cons false (replicate n false), size-none n)
 

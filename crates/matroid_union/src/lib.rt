@@ -3,12 +3,11 @@
 
 mod ends;
 mod exchange;
-mod full;
 mod greedy;
+mod growing;
 mod matroid;
 mod packing;
 mod parts;
-mod rank;
 mod search;
 
 pub use matroid::Matroid;

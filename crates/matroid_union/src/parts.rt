@@ -1,17 +1,17 @@
 ghost use Rattle.std.specs.Prelude.{◌≡◌, ◌^◌, ℕ, ◌<◌, List, length, replicate, IfOk, OnOk, IfSome, Some, None, true, false, []};
 ghost use Rattle.graph_core.specs.Side.{has};
-ghost use Rattle.matroid_union.specs.Matroid.{IsAlike, IsRank};
-ghost use Rattle.matroid_union.specs.Parts.{own_of, rows_of, IsPacking};
+ghost use Rattle.matroid_union.specs.Matroid.{IsAlike};
+ghost use Rattle.matroid_union.specs.Growing.{AreKept, AreFilled};
+ghost use Rattle.matroid_union.specs.Parts.{own_of, part, rows_of, IsPacking};
 ghost use Rattle.matroid_union.specs.Search.{AreDead};
 ghost use Rattle.matroid_union.specs.Union.{IsUnion};
 
 use crate::exchange::exchange;
-use crate::full::full_parts;
 use crate::greedy::take_freely;
+use crate::growing::{ReachedSets, fill_sets, no_sets, none_reached};
 use crate::matroid::Matroid;
-use crate::rank::rank;
-use crate::search::{Search, blank, find_end};
-use graph_core::{Marks, NoMemory, NumberRows, Numbers};
+use crate::search::{Search, find_end};
+use graph_core::{Items, Marks, NoMemory, NumberRows, Numbers};
 use std::alloc::Global;
 
 /// Disjoint free sets, and elements that show that they are most: those reached from the rest by exchanges.
@@ -28,7 +28,7 @@ pub fn union<M: Matroid>(alloc: Global, matroid: &mut M, k: u32) -> Result<FreeP
     ensures union { IfOk result (λ r. IsUnion (M.count matroid.old) (M.free matroid.old) k r.parts r.reached) }
 {
     let mut owner = no_owners(alloc, matroid.size())?;
-    let reached = pack(alloc, matroid, &mut owner, k)?;
+    let reached = pack(alloc, &*matroid, &mut owner, k)?;
     let parts = all_rows(alloc, &owner, k)?;
     Ok(FreeParts { parts, reached })
 }
@@ -36,23 +36,22 @@ pub fn union<M: Matroid>(alloc: Global, matroid: &mut M, k: u32) -> Result<FreeP
 /// Adds to the parts until they have the most elements, and gives the dead ones.
 fn pack<M: Matroid>(
     alloc: Global,
-    matroid: &mut M,
+    matroid: &M,
     owner: &mut [Option<u32>],
     k: u32,
 ) -> Result<Marks, NoMemory>
-    requires all { length owner.old ≡ M.count matroid.old }
-    requires few { M.count matroid.old < 2 ^ 32 }
-    requires packing { IsPacking (M.count matroid.old) (M.free matroid.old) k (own_of owner.old) }
-    ensures packing { OnOk result (IsPacking (M.count matroid.old) (M.free matroid.old) k (own_of owner.new)) }
-    ensures dead { IfOk result (AreDead (M.count matroid.old) (M.free matroid.old) k (own_of owner.new)) }
-    ensures rest { IfOk result (λ dead. (e : ℕ) → e < M.count matroid.old → own_of owner.new e ≡ None → has dead e ≡ true) }
-    ensures same { IsAlike (M.count matroid.old) (M.free matroid.old) (M.count matroid.new) (M.free matroid.new) }
+    requires all { length owner.old ≡ M.count matroid.now }
+    requires few { M.count matroid.now < 2 ^ 32 }
+    requires none { (e : ℕ) → own_of owner.old e ≡ None }
+    ensures packing { OnOk result (IsPacking (M.count matroid.now) (M.free matroid.now) k (own_of owner.new)) }
+    ensures dead { IfOk result (AreDead (M.count matroid.now) (M.free matroid.now) k (own_of owner.new)) }
+    ensures rest { IfOk result (λ dead. (e : ℕ) → e < M.count matroid.now → own_of owner.new e ≡ None → has dead e ≡ true) }
 {
-    let mut set = blank(alloc, owner.len())?;
     let mut search = Search::new(alloc, owner.len())?;
-    let most = rank(matroid, &mut set);
-    take_freely(matroid, &mut set, owner, &search.reached, k);
-    grow(alloc, matroid, &mut set, owner, &mut search, most, k)?;
+    let mut whole = no_sets(alloc, matroid, k)?;
+    let mut met = none_reached(alloc, matroid, k)?;
+    take_freely(matroid, &mut whole, owner, k);
+    grow(matroid, &mut whole, &mut met, owner, &mut search, k)?;
     let Search {
         dead,
         reached: _,
@@ -64,31 +63,40 @@ fn pack<M: Matroid>(
 
 /// Searches from each element that no part has, until it is in a part or dead.
 fn grow<M: Matroid>(
-    alloc: Global,
-    matroid: &mut M,
-    set: &mut Marks,
+    matroid: &M,
+    whole: &mut Items<M::Set>,
+    met: &mut ReachedSets<M::Set>,
     owner: &mut [Option<u32>],
     search: &mut Search,
-    most: usize,
     k: u32,
 ) -> Result<(), NoMemory>
-    requires all { length owner.old ≡ M.count matroid.old }
-    requires few { M.count matroid.old < 2 ^ 32 }
-    requires long { length set.old ≡ M.count matroid.old }
-    requires packing { IsPacking (M.count matroid.old) (M.free matroid.old) k (own_of owner.old) }
-    requires most { IsRank (M.count matroid.old) (M.free matroid.old) most }
-    requires reached { length search.old.reached ≡ M.count matroid.old }
-    requires dead { AreDead (M.count matroid.old) (M.free matroid.old) k (own_of owner.old) search.old.dead }
-    ensures packing { OnOk result (IsPacking (M.count matroid.old) (M.free matroid.old) k (own_of owner.new)) }
-    ensures dead { OnOk result (AreDead (M.count matroid.old) (M.free matroid.old) k (own_of owner.new) search.new.dead) }
-    ensures rest { OnOk result ((e : ℕ) → e < M.count matroid.old → own_of owner.new e ≡ None → has search.new.dead e ≡ true) }
-    ensures same { IsAlike (M.count matroid.old) (M.free matroid.old) (M.count matroid.new) (M.free matroid.new) }
+    requires all { length owner.old ≡ M.count matroid.now }
+    requires few { M.count matroid.now < 2 ^ 32 }
+    requires packing { IsPacking (M.count matroid.now) (M.free matroid.now) k (own_of owner.old) }
+    requires whole { AreFilled (M.keeps matroid.now) M.members (M.count matroid.now) k (part (own_of owner.old)) whole.old }
+    requires met { AreKept (M.keeps matroid.now) k met.old.parts }
+    requires trial { M.keeps matroid.now met.old.trial }
+    requires reached { length search.old.reached ≡ M.count matroid.now }
+    requires dead { AreDead (M.count matroid.now) (M.free matroid.now) k (own_of owner.old) search.old.dead }
+    ensures packing { OnOk result (IsPacking (M.count matroid.now) (M.free matroid.now) k (own_of owner.new)) }
+    ensures dead { OnOk result (AreDead (M.count matroid.now) (M.free matroid.now) k (own_of owner.new) search.new.dead) }
+    ensures rest { OnOk result ((e : ℕ) → e < M.count matroid.now → own_of owner.new e ≡ None → has search.new.dead e ≡ true) }
 {
     'grow: while let Some(element) = next_root(owner, &search.dead) {
         search.restart(element as u32)?;
-        let full = full_parts(alloc, owner, most, k)?;
-        match find_end(matroid, set, owner, search, &full, k)? {
-            Some(end) => exchange(matroid, owner, search, end, k),
+        fill_sets(
+            matroid,
+            &mut met.parts,
+            owner,
+            &search.reached,
+            owner.len(),
+            k,
+        );
+        match find_end(matroid, whole, met, owner, search, k)? {
+            Some(end) => {
+                exchange(matroid, owner, search, end, k);
+                fill_sets(matroid, whole, owner, &search.reached, 0, k);
+            }
             None => search.settle(),
         }
     }

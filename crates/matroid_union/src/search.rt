@@ -1,13 +1,14 @@
 ghost use Rattle.std.specs.Prelude.{◌≡◌, ◌+◌, ◌++◌, ◌∷◌, [], ℕ, ◌<◌, ◌^◌, length, replicate, IfOk, OnOk, IfSome, None, true, false, slice_set, slice_index};
 ghost use Rattle.graph_core.specs.Side.{has};
-ghost use Rattle.matroid_union.specs.Matroid.{IsAlike};
-ghost use Rattle.matroid_union.specs.Parts.{own_of, IsPacking, End};
-ghost use Rattle.matroid_union.specs.Search.{IsSearch, IsFull, IsShut, IsClosed, Begins};
+ghost use Rattle.matroid_union.specs.Growing.{AreKept, AreFilled};
+ghost use Rattle.matroid_union.specs.Parts.{own_of, part, kept, IsPacking, End};
+ghost use Rattle.matroid_union.specs.Search.{IsSearch, IsFull, IsShut, Begins};
 
 use crate::ends::{PathEnd, first_end};
+use crate::growing::ReachedSets;
 use crate::matroid::Matroid;
-use crate::packing::{can_take, find_place, is_part};
-use graph_core::{Marks, NoMemory};
+use crate::packing::{find_place, is_part};
+use graph_core::{Items, Marks, NoMemory};
 use std::alloc::Global;
 
 /// A search: the elements that it reached, in a queue, each with the place of the one that reached it,
@@ -103,73 +104,75 @@ fn copy_marks(to: &mut Marks, from: &Marks)
 
 /// Reaches each element of the part that it can give for the one at place `at`.
 fn scan_part<M: Matroid>(
-    matroid: &mut M,
-    set: &mut Marks,
+    matroid: &M,
+    met: &mut ReachedSets<M::Set>,
     owner: &[Option<u32>],
     search: &mut Search,
     at: usize,
     number: u32,
     k: u32,
 ) -> Result<(), NoMemory>
-    requires all { length owner.now ≡ M.count matroid.old }
-    requires few { M.count matroid.old < 2 ^ 32 }
-    requires long { length set.old ≡ M.count matroid.old }
+    requires all { length owner.now ≡ M.count matroid.now }
+    requires few { M.count matroid.now < 2 ^ 32 }
     requires below { number < k }
     requires place { at < length search.old.queue.items }
-    requires packing { IsPacking (M.count matroid.old) (M.free matroid.old) k (own_of owner.now) }
-    requires search { IsSearch (M.count matroid.old) (M.free matroid.old) k (own_of owner.now) search.old.dead search.old.reached search.old.queue.items search.old.back.items at }
-    requires shut { IsShut (M.count matroid.old) (M.free matroid.old) k (own_of owner.now) (slice_index search.old.queue.items at) }
-    requires passed { IsFull (M.count matroid.old) (M.free matroid.old) number (own_of owner.now) search.old.reached (slice_index search.old.queue.items at) }
-    ensures long { length set.new ≡ M.count matroid.old }
-    ensures same { IsAlike (M.count matroid.old) (M.free matroid.old) (M.count matroid.new) (M.free matroid.new) }
+    requires packing { IsPacking (M.count matroid.now) (M.free matroid.now) k (own_of owner.now) }
+    requires met { AreFilled (M.keeps matroid.now) M.members (M.count matroid.now) k (λ p. kept (own_of owner.now) search.old.reached p (M.count matroid.now)) met.old.parts }
+    requires trial { M.keeps matroid.now met.old.trial }
+    requires search { IsSearch (M.count matroid.now) (M.free matroid.now) k (own_of owner.now) search.old.dead search.old.reached search.old.queue.items search.old.back.items at }
+    requires shut { IsShut (M.count matroid.now) (M.free matroid.now) k (own_of owner.now) (slice_index search.old.queue.items at) }
+    requires passed { IsFull (M.count matroid.now) (M.free matroid.now) number (own_of owner.now) search.old.reached (slice_index search.old.queue.items at) }
+    ensures met { OnOk result (AreFilled (M.keeps matroid.now) M.members (M.count matroid.now) k (λ p. kept (own_of owner.now) search.new.reached p (M.count matroid.now)) met.new.parts) }
+    ensures trial { OnOk result (M.keeps matroid.now met.new.trial) }
     ensures dead { search.new.dead ≡ search.old.dead }
     ensures begins { OnOk result (Begins search.old.queue.items search.new.queue.items) }
-    ensures search { OnOk result (IsSearch (M.count matroid.old) (M.free matroid.old) k (own_of owner.now) search.new.dead search.new.reached search.new.queue.items search.new.back.items at) }
-    ensures passed { OnOk result (IsFull (M.count matroid.old) (M.free matroid.old) (number + 1) (own_of owner.now) search.new.reached (slice_index search.new.queue.items at)) }
+    ensures search { OnOk result (IsSearch (M.count matroid.now) (M.free matroid.now) k (own_of owner.now) search.new.dead search.new.reached search.new.queue.items search.new.back.items at) }
+    ensures passed { OnOk result (IsFull (M.count matroid.now) (M.free matroid.now) (number + 1) (own_of owner.now) search.new.reached (slice_index search.new.queue.items at)) }
 {
     let element = search.queue[at];
     if is_part(owner[element as usize], number) {
         return Ok(());
     }
-    'reach: while can_take(
-        matroid,
-        set,
-        owner,
-        &search.reached,
-        number,
-        owner.len(),
-        element,
-    ) {
-        let place = find_place(matroid, set, owner, &search.reached, number, element);
+    'reach: while matroid.takes(met.parts.item(number as usize), element) {
+        let place = find_place(
+            matroid,
+            &mut met.trial,
+            owner,
+            &search.reached,
+            number,
+            element,
+        );
         search.reach(place as u32, at)?;
+        matroid.add(met.parts.item_mut(number as usize), place as u32);
     }
     Ok(())
 }
 
 /// Reaches each element that a part can give for the one at place `at`.
 fn scan_element<M: Matroid>(
-    matroid: &mut M,
-    set: &mut Marks,
+    matroid: &M,
+    met: &mut ReachedSets<M::Set>,
     owner: &[Option<u32>],
     search: &mut Search,
     at: usize,
     k: u32,
 ) -> Result<(), NoMemory>
-    requires all { length owner.now ≡ M.count matroid.old }
-    requires few { M.count matroid.old < 2 ^ 32 }
-    requires long { length set.old ≡ M.count matroid.old }
+    requires all { length owner.now ≡ M.count matroid.now }
+    requires few { M.count matroid.now < 2 ^ 32 }
     requires place { at < length search.old.queue.items }
-    requires packing { IsPacking (M.count matroid.old) (M.free matroid.old) k (own_of owner.now) }
-    requires search { IsSearch (M.count matroid.old) (M.free matroid.old) k (own_of owner.now) search.old.dead search.old.reached search.old.queue.items search.old.back.items at }
-    requires shut { IsShut (M.count matroid.old) (M.free matroid.old) k (own_of owner.now) (slice_index search.old.queue.items at) }
-    ensures long { length set.new ≡ M.count matroid.old }
-    ensures same { IsAlike (M.count matroid.old) (M.free matroid.old) (M.count matroid.new) (M.free matroid.new) }
+    requires packing { IsPacking (M.count matroid.now) (M.free matroid.now) k (own_of owner.now) }
+    requires met { AreFilled (M.keeps matroid.now) M.members (M.count matroid.now) k (λ p. kept (own_of owner.now) search.old.reached p (M.count matroid.now)) met.old.parts }
+    requires trial { M.keeps matroid.now met.old.trial }
+    requires search { IsSearch (M.count matroid.now) (M.free matroid.now) k (own_of owner.now) search.old.dead search.old.reached search.old.queue.items search.old.back.items at }
+    requires shut { IsShut (M.count matroid.now) (M.free matroid.now) k (own_of owner.now) (slice_index search.old.queue.items at) }
+    ensures met { OnOk result (AreFilled (M.keeps matroid.now) M.members (M.count matroid.now) k (λ p. kept (own_of owner.now) search.new.reached p (M.count matroid.now)) met.new.parts) }
+    ensures trial { OnOk result (M.keeps matroid.now met.new.trial) }
     ensures dead { search.new.dead ≡ search.old.dead }
     ensures begins { OnOk result (Begins search.old.queue.items search.new.queue.items) }
-    ensures search { OnOk result (IsSearch (M.count matroid.old) (M.free matroid.old) k (own_of owner.now) search.new.dead search.new.reached search.new.queue.items search.new.back.items (at + 1)) }
+    ensures search { OnOk result (IsSearch (M.count matroid.now) (M.free matroid.now) k (own_of owner.now) search.new.dead search.new.reached search.new.queue.items search.new.back.items (at + 1)) }
 {
     for number in 0..k {
-        scan_part(matroid, set, owner, search, at, number, k)?;
+        scan_part(matroid, met, owner, search, at, number, k)?;
     }
     Ok(())
 }
@@ -177,50 +180,41 @@ fn scan_element<M: Matroid>(
 /// Searches until a part can take an element beside what it has. Each element is tested for that
 /// before any is looked at for what it could reach.
 pub(crate) fn find_end<M: Matroid>(
-    matroid: &mut M,
-    set: &mut Marks,
+    matroid: &M,
+    whole: &Items<M::Set>,
+    met: &mut ReachedSets<M::Set>,
     owner: &[Option<u32>],
     search: &mut Search,
-    full: &Marks,
     k: u32,
 ) -> Result<Option<PathEnd>, NoMemory>
-    requires all { length owner.now ≡ M.count matroid.old }
-    requires few { M.count matroid.old < 2 ^ 32 }
-    requires long { length set.old ≡ M.count matroid.old }
-    requires packing { IsPacking (M.count matroid.old) (M.free matroid.old) k (own_of owner.now) }
-    requires search { IsSearch (M.count matroid.old) (M.free matroid.old) k (own_of owner.now) search.old.dead search.old.reached search.old.queue.items search.old.back.items 0 }
-    requires wide { length full.now ≡ k }
-    requires full { (p : ℕ) → has full.now p ≡ true → IsClosed (M.count matroid.old) (M.free matroid.old) (own_of owner.now) p }
+    requires all { length owner.now ≡ M.count matroid.now }
+    requires few { M.count matroid.now < 2 ^ 32 }
+    requires packing { IsPacking (M.count matroid.now) (M.free matroid.now) k (own_of owner.now) }
+    requires whole { AreFilled (M.keeps matroid.now) M.members (M.count matroid.now) k (part (own_of owner.now)) whole.now }
+    requires met { AreFilled (M.keeps matroid.now) M.members (M.count matroid.now) k (λ p. kept (own_of owner.now) search.old.reached p (M.count matroid.now)) met.old.parts }
+    requires trial { M.keeps matroid.now met.old.trial }
+    requires search { IsSearch (M.count matroid.now) (M.free matroid.now) k (own_of owner.now) search.old.dead search.old.reached search.old.queue.items search.old.back.items 0 }
     requires some { 0 < length search.old.queue.items }
-    ensures long { length set.new ≡ M.count matroid.old }
-    ensures same { IsAlike (M.count matroid.old) (M.free matroid.old) (M.count matroid.new) (M.free matroid.new) }
+    ensures met { OnOk result (AreKept (M.keeps matroid.now) k met.new.parts) }
+    ensures trial { OnOk result (M.keeps matroid.now met.new.trial) }
     ensures dead { search.new.dead ≡ search.old.dead }
     ensures some { OnOk result (0 < length search.new.queue.items) }
-    ensures search { OnOk result (IsSearch (M.count matroid.old) (M.free matroid.old) k (own_of owner.now) search.new.dead search.new.reached search.new.queue.items search.new.back.items 0) }
+    ensures search { OnOk result (IsSearch (M.count matroid.now) (M.free matroid.now) k (own_of owner.now) search.new.dead search.new.reached search.new.queue.items search.new.back.items 0) }
     ensures place { IfOk result (λ found. IfSome found (λ end. end.at < length search.new.queue.items)) }
-    ensures found { IfOk result (λ found. IfSome found (λ end. End (M.count matroid.old) (M.free matroid.old) k (own_of owner.now) (slice_index search.new.queue.items) end.at end.number)) }
-    ensures stuck { IfOk result (λ found. found ≡ None → IsSearch (M.count matroid.old) (M.free matroid.old) k (own_of owner.now) search.new.dead search.new.reached search.new.queue.items search.new.back.items (length search.new.queue.items)) }
+    ensures found { IfOk result (λ found. IfSome found (λ end. End (M.count matroid.now) (M.free matroid.now) k (own_of owner.now) (slice_index search.new.queue.items) end.at end.number)) }
+    ensures stuck { IfOk result (λ found. found ≡ None → IsSearch (M.count matroid.now) (M.free matroid.now) k (own_of owner.now) search.new.dead search.new.reached search.new.queue.items search.new.back.items (length search.new.queue.items)) }
 {
     let mut at: usize = 0;
     let mut tested: usize = 0;
     'places: loop {
-        if let Some(end) = first_end(
-            matroid,
-            set,
-            owner,
-            &search.reached,
-            full,
-            &search.queue,
-            tested,
-            k,
-        ) {
+        if let Some(end) = first_end(matroid, whole, owner, &search.queue, tested, k) {
             return Ok(Some(end));
         }
         if at == search.queue.len() {
             return Ok(None);
         }
         tested = search.queue.len();
-        scan_element(matroid, set, owner, search, at, k)?;
+        scan_element(matroid, met, owner, search, at, k)?;
         at += 1;
     }
 }

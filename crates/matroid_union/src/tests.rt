@@ -1,6 +1,17 @@
+ghost use Rattle.std.specs.Prelude.{◌≡◌};
+ghost use Rattle.graph_core.specs.Side.{size};
+
+use crate::search::blank;
 use crate::{FreeParts, Matroid, union};
-use graph_core::Marks;
+use graph_core::{Marks, NoMemory};
+use std::alloc::Global;
 use std::test::Fail;
+
+fn taken(set: &Marks) -> usize
+    ensures { result ≡ size set.now }
+{
+    set.as_slice().iter().filter(|mark| **mark).count()
+}
 
 /// The sets of at most `most` elements are free.
 #[derive(Drop)]
@@ -10,13 +21,18 @@ struct Uniform {
 }
 
 impl Matroid for Uniform {
-    ghost use Rattle.std.specs.Prelude.{◌≤◌};
-    ghost use Rattle.graph_core.specs.Side.{size};
+    ghost use Rattle.std.specs.Prelude.{◌≤◌, length};
     ghost use Rattle.matroid_union.specs.Uniform.{uniform_matroid};
+
+    type Set = Marks;
 
     ghost count = { λ u. u.size };
 
     ghost free = { λ u X. size X ≤ u.most };
+
+    ghost members = { λ set. set };
+
+    ghost keeps = { λ u set. (length set ≡ u.size) × (size set ≤ u.most) };
 
     ghost laws = { λ u. uniform_matroid u.size u.most };
 
@@ -25,7 +41,25 @@ impl Matroid for Uniform {
     }
 
     fn is_free(&mut self, set: &Marks) -> bool {
-        set.as_slice().iter().filter(|mark| **mark).count() <= self.most
+        taken(set) <= self.most
+    }
+
+    fn no_elements(&self, alloc: Global) -> Result<Marks, NoMemory> {
+        blank(alloc, self.size)
+    }
+
+    fn clear(&self, set: &mut Marks) {
+        for i in 0..set.len() {
+            *set.item_mut(i) = false;
+        }
+    }
+
+    fn takes(&self, set: &Marks, element: u32) -> bool {
+        *set.item(element as usize) || taken(set) < self.most
+    }
+
+    fn add(&self, set: &mut Marks, element: u32) {
+        *set.item_mut(element as usize) = true;
     }
 }
 

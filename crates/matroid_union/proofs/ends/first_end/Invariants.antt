@@ -1,12 +1,7 @@
-use Rattle.std.proofs.Common.{◌≡◌, ◌<◌, ℕ, length, get_or}
-use Rattle.matroid_union.specs.Matroid.{IsAlike}
+use Rattle.std.proofs.Common.{◌<◌, ℕ, get_or}
 use Rattle.matroid_union.specs.Parts.{own_of}
 use Rattle.matroid_union.specs.Search.{IsShut}
 use Rattle.matroid_union.proofs.ends.first_end.Given as goal
 
 abbrev pub invariant-loop-at : goal.invariant-loop-at
-invariant-loop-at g l = record {
-  long : length l.set ≡ g.M.Matroid.count l.fn.matroid;
-  same : IsAlike (g.M.Matroid.count l.fn.matroid) (g.M.Matroid.free l.fn.matroid) (g.M.Matroid.count l.matroid) (g.M.Matroid.free l.matroid);
-  shut : (i : ℕ) → i < l.at → IsShut (g.M.Matroid.count l.fn.matroid) (g.M.Matroid.free l.fn.matroid) l.k (own_of l.owner) (get_or l.queue i 0);
-}
+invariant-loop-at g l = (i : ℕ) → i < l.at → IsShut (g.M.Matroid.count l.matroid) (g.M.Matroid.free l.matroid) l.k (own_of l.owner) (get_or l.queue i 0)

@@ -2,13 +2,11 @@ use Rattle.std.proofs.Common.{◌≡◌, length, get_or, take, drop, ◌++◌, N
 use Rattle.std.proofs.lemmas.List.{length-replicate}
 use Rattle.matroid_union.specs.Parts.{own_of, rows_of}
 use Rattle.matroid_union.specs.Union.{IsUnion}
-use Rattle.matroid_union.proofs.Rows.{none_of, pack_none, union_done, whole_slice}
+use Rattle.matroid_union.proofs.Rows.{none_of, union_done, whole_slice}
 use Rattle.matroid_union.proofs.parts.union.Goals as goal
 
-pub pack-requires-clause-packing : goal.pack-requires-clause-packing
-pack-requires-clause-packing g c =
-    pack_none (g.M.Matroid.count c.args.matroid.now) (g.M.Matroid.free c.args.matroid.now) (g.met.M.Matroid.laws c.args.matroid.now) c.args.k (own_of c.deref_mut.result.now)
-    (λ i. ap (λ v. get_or v i None) (c.deref_mut.ensures.value ∙ c.in_ok-owner.ensures) ∙ none_of c.size.result i)
+pub pack-requires-clause-none : goal.pack-requires-clause-none
+pack-requires-clause-none g c = λ i. ap (λ v. get_or v i None) (c.deref_mut.ensures.value ∙ c.in_ok-owner.ensures) ∙ none_of c.size.result i
 
 pub returns-clause-union : goal.returns-clause-union
 returns-clause-union g c =
