@@ -68,6 +68,9 @@ side-step names all v X left behind name here apart l is r split other = record 
     by Y false true split other e = absurd (not-behind names v (drop (suc v) Y) behind apart l (e ∙ split ∙ ap (λ n. n ∷ behind) is))
     by Y false false split other e = e ∙ split
 
+pub side-start : (names all : List (List ℕ)) (X : List Bool) → length X ≡ length names → SideRead names all 0 X all
+side-start names all X long = record { long = long; front = refl; only = λ Y _ e. e }
+
 pub side-done : (names all : List (List ℕ)) (X : List Bool) (left : List (List ℕ)) → SideRead names all (length names) X left → left ≡ [] → names_in names X ≡ all
 side-done names all X left r none =
     sym (r.front ∙ ap (λ ws. names_in (take (length names) names) (take (length names) X) ++ ws) none ∙ append-nil (names_in (take (length names) names) (take (length names) X)) ∙ ap (λ ns. names_in ns (take (length names) X)) (take-length names) ∙ ap (λ n. names_in names (take n X)) (sym r.long) ∙ ap (names_in names) (take-length X))

@@ -23,7 +23,7 @@ use Rattle.certificate_text.specs.Allowed.{GoesOn, is_end, NoEnd}
 use Rattle.certificate_text.specs.Text.{unlines, text}
 use Rattle.certificate_text.specs.BadLine.{whole_lines, IsBad}
 use Rattle.certificate_text.specs.Gather.{nothing, grown, gather, body_of}
-use Rattle.certificate_text.specs.Reading.{MayNotCome, Stops}
+use Rattle.certificate_text.specs.Reading.{HasRead, MayNotCome, Stops}
 use Rattle.certificate_text.specs.Loop.{AreRows, option_list, Reading}
 use Rattle.certificate_text.specs.Front.{IsAtFront}
 use Rattle.certificate_text.proofs.MachineLaws.{run-append}
@@ -184,6 +184,10 @@ not-end g one two x ends ends' undone going = by (is_end x) refl
 no_end-push : (xs : List CertLine) (x : CertLine) → NoEnd xs → is_end x ≡ false → NoEnd (xs ++ x ∷ [])
 no_end-push [] x none e = (e, tt)
 no_end-push (y ∷ xs) x none e = (none.0, no_end-push xs x none.1 e)
+
+-- the first two lines were read, and no other
+pub reading-start : (g : GraphValue) (bytes : List ℕ) (a : Ask) (first : List Slot) (second : Option (List Slot)) (rest : List ℕ) → HasRead g bytes (line.Title ∷ line.Command a ∷ []) rest → Reading g bytes a first second rest 2 (Some first) second nothing
+reading-start g bytes a first second rest read = record { lines = []; read = read; counted = refl; one_is = refl; two_is = sym (then-some second); content_is = refl }
 
 pub reading-next : (g : GraphValue) (bytes : List ℕ) (a : Ask) (first : List Slot) (second : Option (List Slot)) (rest : List ℕ) (count : ℕ) (one two : Option (List Slot)) (content : Content) (l more : List ℕ) (x : CertLine) → AreRows g a first second → Reading g bytes a first second rest count one two content → rest ≡ l ++ 10 ∷ more
     → IsValid g x → spelled g x ≡ l

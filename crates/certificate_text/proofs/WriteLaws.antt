@@ -1,11 +1,11 @@
 -- What was written, line by line.
-use Rattle.std.proofs.Common.{◌≡◌, ℕ, zero, suc, ◌+◌, ◌<◌, Bool, true, false, cond, List, [], ◌∷◌, ◌++◌, map, length, take, get_or, refl, sym, ap, ◌∙◌, append_assoc, append-nil, add-one, Some, arith}
+use Rattle.std.proofs.Common.{◌≡◌, ℕ, zero, suc, ◌+◌, ◌<◌, ◌≤◌, Bool, true, false, cond, List, [], ◌∷◌, ◌++◌, map, length, take, get_or, refl, sym, ap, subst, ◌∙◌, append_assoc, append-nil, add-one, Some, All, arith}
 use Rattle.std.specs.Prelude.{slice_get, codes}
 use Rattle.std.specs.Fmt.{decimal}
 use Rattle.std.specs.List.{flat_map, join_with_byte}
-use Rattle.std.proofs.lemmas.List.{take_more, map-append, flat_map_more}
+use Rattle.std.proofs.lemmas.List.{take_all, take_more, map-append, flat_map_more}
 use Rattle.std.proofs.lemmas.List.Folds.{flat_map-map}
-use Rattle.std.proofs.lemmas.Option.{get_or_from_slice_get}
+use Rattle.std.proofs.lemmas.Option.{get_or_from_slice_get, slice_get_within}
 use Rattle.std.proofs.lemmas.Grind.{flat_map-append}
 use Rattle.graph_core.specs.Graph.{GraphValue}
 use Rattle.graph_core.specs.declared.graph.Line.{Line}
@@ -17,11 +17,23 @@ use Rattle.certificate_text.specs.Lines.{turned_line, turned_lines, set_lines}
 use Rattle.certificate_text.specs.Text.{line_text, spelling}
 use Rattle.certificate_text.proofs.CodeLaws.{join-more}
 
+-- what holds of each item holds of the one that was taken
+pub item-holds : {X : Type 0} (P : X → Type 0) (all : List X) (at : ℕ) (x : X) → All P all → slice_get all at ≡ Some x → P x
+item-holds P all at x each here = subst P (get_or_from_slice_get all at x x here) (each at x (slice_get_within all at x here))
+
 -- one more item of a list was written
-pub item-more : {X : Type 0} (f : X → List ℕ) (all : List X) (at : ℕ) (x : X) (old now new : List ℕ) → at < length all → slice_get all at ≡ Some x → now ≡ old ++ flat_map f (take at all) → new ≡ now ++ f x → new ≡ old ++ flat_map f (take (at + 1) all)
-item-more f all at x old now new l here before e =
-    let more = take_more all at x l ∙ ap (λ y. take at all ++ y ∷ []) (get_or_from_slice_get all at x x here) in
+pub item-more : {X Y : Type 0} (f : X → List Y) (all : List X) (at : ℕ) (x : X) (old now new : List Y) → slice_get all at ≡ Some x → now ≡ old ++ flat_map f (take at all) → new ≡ now ++ f x → new ≡ old ++ flat_map f (take (at + 1) all)
+item-more f all at x old now new here before e =
+    let more = take_more all at x (slice_get_within all at x here) ∙ ap (λ y. take at all ++ y ∷ []) (get_or_from_slice_get all at x x here) in
     e ∙ ap (λ t. t ++ f x) before ∙ flat_map_more f old (take at all) x ∙ ap (λ ys. old ++ flat_map f ys) (sym more)
+
+-- every item of a list was written
+pub items-all : {X Y : Type 0} (f : X → List Y) (all : List X) (at count : ℕ) (old now : List Y) → count ≡ length all → count ≤ at → now ≡ old ++ flat_map f (take at all) → now ≡ old ++ flat_map f all
+items-all f all at count old now is past written = written ∙ ap (λ xs. old ++ flat_map f xs) (take_all at all (omega (arith, is, past)))
+
+-- the LF behind a line
+pub line-closed : (old line now new : List ℕ) → now ≡ old ++ line → new ≡ now ++ 10 ∷ [] → new ≡ old ++ (line ++ 10 ∷ [])
+line-closed old line now new before e = e ∙ ap (λ t. t ++ 10 ∷ []) before ∙ append_assoc old line (10 ∷ [])
 
 -- These lines were written behind the old text.
 pub record Wrote (g : GraphValue) (old : List ℕ) (xs : List CertLine) (new : List ℕ) : Type 0 where

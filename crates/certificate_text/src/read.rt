@@ -4,6 +4,7 @@ ghost use Rattle.certificate_text.specs.declared.row.Slot.{Slot};
 ghost use Rattle.certificate_text.specs.declared.line.CertLine.{CertLine};
 ghost use Rattle.certificate_text.specs.declared.line.CertLine.TheVariants.{Title, Command};
 ghost use Rattle.problem_defs.specs.declared.ask.Ask as asks;
+ghost use Rattle.certificate_text.specs.Finds.{Finds};
 ghost use Rattle.certificate_text.specs.Words.{spelled};
 ghost use Rattle.certificate_text.specs.Valid.{IsValid};
 ghost use Rattle.certificate_text.specs.Places.{view};
@@ -153,6 +154,24 @@ fn command_of(found: &Option<CertLine>) -> Option<Ask>
     }
 }
 
+// Whether the line is a certificate's first.
+fn reads_title(alloc: Global, graph: &Graph, line: &[u8]) -> Result<bool, NoMemory>
+    ensures { IfOk result (λ is. IsTrue is ↔ (spelled graph.now Title ≡ line.now)) }
+{
+    graph.known();
+    let found = read_line(alloc, graph, line)?;
+    Ok(is_title(&found))
+}
+
+// The ask of the line, where it is a `command` line.
+fn read_command(alloc: Global, graph: &Graph, line: &[u8]) -> Result<Option<Ask>, NoMemory>
+    ensures { IfOk result (Finds (λ ask. IsValid graph.now (Command ask)) (λ ask. spelled graph.now (Command ask)) line.now) }
+{
+    graph.known();
+    let found = read_line(alloc, graph, line)?;
+    Ok(command_of(&found))
+}
+
 /// The certificate whose text is at the front of the bytes, and how many bytes its text has.
 pub fn read_cert(alloc: Global, graph: &Graph, bytes: &[u8]) -> Result<(Cert, usize), CertRefusal>
     ensures ok { IfOk result (λ found. IsAtFront graph.now bytes.now found.0 found.1) }
@@ -162,19 +181,19 @@ pub fn read_cert(alloc: Global, graph: &Graph, bytes: &[u8]) -> Result<(Cert, us
     let Some((first, after)) = whole_line(bytes) else {
         return Err(CertRefusal::Bad { line: 1 });
     };
-    let Ok(title) = read_line(alloc, graph, first) else {
+    let Ok(title) = reads_title(alloc, graph, first) else {
         return Err(CertRefusal::NoMemory);
     };
-    if !is_title(&title) {
+    if !title {
         return Err(CertRefusal::Bad { line: 1 });
     }
     let Some((second, rest)) = whole_line(after) else {
         return Err(CertRefusal::Bad { line: 2 });
     };
-    let Ok(command) = read_line(alloc, graph, second) else {
+    let Ok(command) = read_command(alloc, graph, second) else {
         return Err(CertRefusal::NoMemory);
     };
-    let Some(ask) = command_of(&command) else {
+    let Some(ask) = command else {
         return Err(CertRefusal::Bad { line: 2 });
     };
     read_rows(alloc, graph, ask, bytes, rest)

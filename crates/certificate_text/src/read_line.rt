@@ -52,21 +52,21 @@ fn line_of_keyword(
         } else {
             None
         }),
-        Keyword::Command => Ok(ask_of(graph, words).map(|ask| CertLine::Command(ask))),
-        Keyword::Value => Ok(only_number(words).map(|n| CertLine::Value(n))),
+        Keyword::Command => Ok(ask_of(graph, words).map(CertLine::Command)),
+        Keyword::Value => Ok(only_number(words).map(CertLine::Value)),
         Keyword::Impossible => Ok(if is_done(words) {
             Some(CertLine::Impossible)
         } else {
             None
         }),
-        Keyword::Path => Ok(numbers(alloc, m, words)?.map(|js| CertLine::Path(js))),
-        Keyword::Part => Ok(numbers(alloc, m, words)?.map(|js| CertLine::Part(js))),
-        Keyword::Join => Ok(numbers(alloc, m, words)?.map(|js| CertLine::Join(js))),
+        Keyword::Path => Ok(numbers(alloc, m, words)?.map(CertLine::Path)),
+        Keyword::Part => Ok(numbers(alloc, m, words)?.map(CertLine::Part)),
+        Keyword::Join => Ok(numbers(alloc, m, words)?.map(CertLine::Join)),
         Keyword::Tree => Ok(tree_line(graph, words)),
         Keyword::Edge => Ok(edge_line(graph, words)),
         Keyword::Arc => Ok(arc_line(graph, words)),
-        Keyword::Dual => Ok(only_kind(words).map(|kind| CertLine::Dual(kind))),
-        Keyword::Set => Ok(side(alloc, graph, words)?.map(|side| CertLine::Set(side))),
+        Keyword::Dual => Ok(only_kind(words).map(CertLine::Dual)),
+        Keyword::Set => Ok(side(alloc, graph, words)?.map(CertLine::Set)),
         Keyword::End => Ok(if is_done(words) {
             Some(CertLine::End)
         } else {

@@ -11,7 +11,7 @@ use Rattle.certificate_text.specs.BadLine.{whole_lines}
 use Rattle.certificate_text.specs.Gather.{grown, body_of}
 use Rattle.certificate_text.specs.Front.{IsAtFront}
 use Rattle.certificate_text.specs.Loop.{Reading}
-use Rattle.certificate_text.proofs.ReadLaws.{bad-next, bad-unread, bad-lost, reading-next, reading-done}
+use Rattle.certificate_text.proofs.ReadLaws.{bad-next, bad-unread, bad-lost, reading-start, reading-next, reading-done}
 use Rattle.certificate_text.proofs.CodeLaws.{reading-long}
 use Rattle.certificate_text.proofs.read.read_rest.Goals as goal
 
@@ -72,3 +72,18 @@ returns-clause-bad c =
     let inv = c.loop-front.invariant in
     let whole : whole_lines c.loop-front.rest.now ≡ [] = search rules in
     bad-next c.args.graph.now c.args.bytes.now c.args.ask inv.0 (view c.args.second) c.loop-front.rest.now c.loop-front.count (view c.loop-front.one) (view c.loop-front.two) c.loop-front.content c.known.ensures inv.3 (rw whole tt)
+
+pub loop-front-init : goal.loop-front-init
+loop-front-init c =
+    let g = c.args.graph.now in
+    let bytes = c.args.bytes.now in
+    let after = c.args.after.now in
+    let row = c.requires.rows_are.0 in
+    let two = view c.args.second in
+    let start : Reading g bytes c.args.ask row two after 2 (view c.args.first) two c.empty_content-content.result = rw (c.requires.rows_are.1, c.empty_content-content.ensures) (reading-start g bytes c.args.ask row two after c.requires.begun) in
+    (row, c.requires.rows_are.1, c.requires.rows_are.2, start, reading-long g bytes c.args.ask row two after 2 (view c.args.first) two c.empty_content-content.result start)
+
+pub loop-front-smaller : goal.loop-front-smaller
+loop-front-smaller c =
+    let cut : c.loop-front.rest.now ≡ c.in-Some.front.now ++ 10 ∷ c.in-Some.behind.now = search rules in
+    omega (arith, ap length cut ∙ length-append c.in-Some.front.now (10 ∷ c.in-Some.behind.now))
