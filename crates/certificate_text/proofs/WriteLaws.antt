@@ -28,8 +28,8 @@ item-more f all at x old now new here before e =
     e ∙ ap (λ t. t ++ f x) before ∙ flat_map_more f old (take at all) x ∙ ap (λ ys. old ++ flat_map f ys) (sym more)
 
 -- every item of a list was written
-pub items-all : {X Y : Type 0} (f : X → List Y) (all : List X) (at count : ℕ) (old now : List Y) → count ≡ length all → count ≤ at → now ≡ old ++ flat_map f (take at all) → now ≡ old ++ flat_map f all
-items-all f all at count old now is past written = written ∙ ap (λ xs. old ++ flat_map f xs) (take_all at all (omega (arith, is, past)))
+pub items-all : {X Y : Type 0} (f : X → List Y) (all : List X) (at : ℕ) (old now : List Y) → length all ≤ at → now ≡ old ++ flat_map f (take at all) → now ≡ old ++ flat_map f all
+items-all f all at old now past written = written ∙ ap (λ xs. old ++ flat_map f xs) (take_all at all past)
 
 -- the LF behind a line
 pub line-closed : (old line now new : List ℕ) → now ≡ old ++ line → new ≡ now ++ 10 ∷ [] → new ≡ old ++ (line ++ 10 ∷ [])

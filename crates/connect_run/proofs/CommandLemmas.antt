@@ -1,15 +1,14 @@
 -- What a command asks, and that words are one command or bad.
-use Rattle.std.proofs.Common.{◌≡◌, ◌≢◌, ℕ, List, Option, None, Some, Result, Ok, Err, true, false, refl, sym, ap, subst, ◌∙◌, inl, inr}
+use Rattle.std.proofs.Common.{◌≡◌, ℕ, List, Option, None, Some, Result, Ok, Err, true, false, refl, sym, ap, subst, ◌∙◌, inl, inr}
 use Rattle.std.specs.Option.{IsSomeAnd}
 use Rattle.graph_core.specs.Graph.{GraphValue}
 use Rattle.problem_defs.specs.Ask.{misfit_of, KIsInRange}
 use Rattle.problem_defs.specs.declared.ask.Ask.{Ask}
 use Rattle.problem_defs.specs.declared.ask.Ask.TheVariants as ask
 use Rattle.problem_defs.specs.declared.ask.Misfit.{Misfit}
-use Rattle.connect_words.specs.Commands.{Solves}
 use Rattle.connect_words.specs.Asks.{asked, node_at, suited, unless}
 use Rattle.connect_words.specs.declared.command.Command.{Command}
-use Rattle.connect_words.specs.declared.command.Command.TheVariants.{Flow, CutTree, Arborescences, Trees, Forests, Check}
+use Rattle.connect_words.specs.declared.command.Command.TheVariants.{Flow, CutTree, Arborescences, Trees, Forests}
 use Rattle.connect_words.proofs.MeaningLemmas.{one_command}
 use Rattle.connect_run.specs.Built.{AreCommand, is_built, is_solving, is_solved}
 use Rattle.connect_run.specs.WordsCase.{IsBadPlace}

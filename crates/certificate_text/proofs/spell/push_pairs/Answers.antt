@@ -1,4 +1,4 @@
-use Rattle.std.proofs.Common.{◌<◌, length}
+use Rattle.std.proofs.Common.{◌<◌, length, arith}
 use Rattle.certificate_text.proofs.WriteLaws.{item-holds, item-more, items-all}
 use Rattle.certificate_text.specs.Words as words_of
 use Rattle.certificate_text.proofs.spell.push_pairs.Goals as goal
@@ -10,4 +10,4 @@ pub loop-at-preserved : goal.loop-at-preserved
 loop-at-preserved c = item-more (words_of.pair_line c.args.graph.now c.args.word.now) c.args.pairs.now c.loop-at.at c.item.result.now c.args.text.now.items c.loop-at.text.items c.push_pair_line.new.text.items c.item.ensures c.loop-at.invariant c.in_ok-push_pair_line.ensures
 
 pub returns : goal.returns
-returns c = items-all (words_of.pair_line c.args.graph.now c.args.word.now) c.args.pairs.now c.loop-at.at c.len-at-end.result c.args.text.now.items c.loop-at.text.items c.len-at-end.ensures c.loop-at-test.false c.loop-at.invariant
+returns c = items-all (words_of.pair_line c.args.graph.now c.args.word.now) c.args.pairs.now c.loop-at.at c.args.text.now.items c.loop-at.text.items (omega arith) c.loop-at.invariant

@@ -1,4 +1,4 @@
-use Rattle.std.proofs.Common.{◌<◌, length}
+use Rattle.std.proofs.Common.{◌<◌, length, arith}
 use Rattle.certificate_text.proofs.WriteLaws.{item-holds, item-more, items-all}
 use Rattle.certificate_text.specs.Text.{line_text}
 use Rattle.certificate_text.specs.declared.line.CertLine.TheVariants as line
@@ -11,4 +11,4 @@ pub loop-at-preserved : goal.loop-at-preserved
 loop-at-preserved c = item-more (λ p. line_text c.args.graph.now (line.Tree p.0 p.1 p.2)) c.args.pairs.now c.loop-at.at c.item.result.now c.args.text.now.items c.loop-at.text.items c.push_tree_line.new.text.items c.item.ensures c.loop-at.invariant c.in_ok-push_tree_line.ensures
 
 pub returns : goal.returns
-returns c = items-all (λ p. line_text c.args.graph.now (line.Tree p.0 p.1 p.2)) c.args.pairs.now c.loop-at.at c.len-at-end.result c.args.text.now.items c.loop-at.text.items c.len-at-end.ensures c.loop-at-test.false c.loop-at.invariant
+returns c = items-all (λ p. line_text c.args.graph.now (line.Tree p.0 p.1 p.2)) c.args.pairs.now c.loop-at.at c.args.text.now.items c.loop-at.text.items (omega arith) c.loop-at.invariant
