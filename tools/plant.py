@@ -75,11 +75,21 @@ def plants_of(crate):
     return plants
 
 
+def link_kept(one, other):
+    """Links what a check proved, since a check replaces it and changes none of it, and copies the rest."""
+    try:
+        if one.endswith(".oantt"):
+            return os.link(one, other)
+    except OSError:
+        pass  # (it lies on another disk)
+    return shutil.copy2(one, other)
+
+
 def copy_repository(room):
-    """A copy without what checks left and without the must-fail edits. Checks in it begin with what others here kept."""
+    """A copy without the must-fail edits. Checks in it begin with what others here kept."""
     for name in ["crates.txt", "HANDLES"]:
         shutil.copy(ROOT / name, room / name)
-    shutil.copytree(ROOT / "crates", room / "crates", ignore=shutil.ignore_patterns("out", "must-fail"))
+    shutil.copytree(ROOT / "crates", room / "crates", ignore=shutil.ignore_patterns("must-fail"), copy_function=link_kept)
 
 
 def rt(folder, words, jobs):
@@ -89,10 +99,8 @@ def rt(folder, words, jobs):
 
 
 def copy_work(one, other):
-    """Copies what a check kept; a check replaces what it proved, and changes none of it."""
-    link = lambda a, b: os.link(a, b) if a.endswith(".oantt") else shutil.copy2(a, b)
     shutil.rmtree(other, ignore_errors=True)
-    shutil.copytree(one, other, copy_function=link)
+    shutil.copytree(one, other, copy_function=link_kept)
 
 
 class Planted:
