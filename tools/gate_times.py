@@ -1,7 +1,7 @@
 #!/usr/bin/env python3
 """Runs the gate and prints what each crate cost it: its proof, the proof of its tests, and its must-fail edits.
 
-usage: gate_times.py [--anew] [CRATE..]
+usage: gate_times.py [WORD..], with what `rt ci` is to be given
 
 Processor seconds are read off /proc once a second, so a step shorter than that may be missed.
 """
