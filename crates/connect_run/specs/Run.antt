@@ -1,7 +1,7 @@
 -- What a run does to its source and its sink.
-use Rattle.std.specs.Prelude.{ℕ, ◌≡◌, ◌≤◌, ◌⊎◌, List, None, Some, length, IfSome}
+use Rattle.std.specs.Prelude.{ℕ, ◌≡◌, ◌+◌, ◌≤◌, ◌⊎◌, List, None, Some, length, IfSome}
 use Rattle.std.specs.declared.option.Option.{Option}
-use Rattle.std.specs.Io.KnownBytes.{Keeps, Appends, IsAtEnd}
+use Rattle.std.specs.Io.KnownBytes.{Keeps, Appends, Consumes, IsAtEnd}
 use Rattle.cn_edge.specs.Whole.{AppendsPart}
 use Rattle.graph_core.specs.Graph.{GraphValue}
 use Rattle.graph_text.specs.Reading.{ReadsText, IsTextAlone}
@@ -34,6 +34,15 @@ Writes words left old new ReadFault = Keeps old new
 Writes words left old new WriteFault = WritesPart words left old new
 Writes words left old new NoMemory = Keeps old new
 Writes words left old new status = WritesWhole words left old new status
+
+-- at most one byte more than an input may have is taken from the front of the source
+abbrev pub TakesWithin : Option (List ℕ) → Option (List ℕ) → Type 0
+TakesWithin old new = (taken : List ℕ) × Consumes old new taken × (length taken ≤ limit + 1)
+
+-- the source is read to its end, and its input isn't too long
+pub record ReadsWithin (old new : Option (List ℕ)) : Type 0 where
+  pub short : IfSome old (λ bytes. length bytes ≤ limit)
+  pub ended : IsAtEnd new
 
 -- a run that reads leaves no byte of an input that isn't too long
 abbrev pub Drains : Option (List ℕ) → Option (List ℕ) → Type 0

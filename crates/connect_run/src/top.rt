@@ -1,9 +1,8 @@
 ghost use Rattle.std.specs.Prelude.{◌≡◌, ◌≤◌, ◌⊎◌, map, string_bytes, IfSome, IfOk, IfErr};
-ghost use Rattle.std.specs.Io.KnownBytes.{IsAtEnd};
 ghost use Rattle.cn_edge.specs.Causes.{CountsFault};
 ghost use Rattle.connect_run.specs.Built.{is_built, Commands, AreCommand};
 ghost use Rattle.connect_run.specs.WordsCase.{IsBadPlace};
-ghost use Rattle.connect_run.specs.Run.{Writes, Drains, IsExact, IsComplete};
+ghost use Rattle.connect_run.specs.Run.{Writes, TakesWithin, ReadsWithin, Drains, IsExact, IsComplete};
 
 use crate::Status;
 use crate::answer::{reply, say};
@@ -33,7 +32,8 @@ pub fn connect_run<S: Source, K: Sink>(
     ensures untouched { (AreCommand (map string_bytes words.now) → ⊥) → source.new ≡ source.old }
     ensures drained { AreCommand (map string_bytes words.now) → (result ≡ Status.ReadFault → ⊥) → (result ≡ Status.NoMemory → ⊥)
         → Drains (S.left source.old) (S.left source.new) }
-    ensures no_memory { result ≡ Status.NoMemory → (source.new ≡ source.old) ⊎ IsAtEnd (S.left source.new) }
+    ensures no_memory { result ≡ Status.NoMemory → (source.new ≡ source.old) ⊎ ReadsWithin (S.left source.old) (S.left source.new) }
+    ensures taken { TakesWithin (S.left source.old) (S.left source.new) }
 
     // Where the source tells its input, the answer that the input has is given, but for a fault or want of memory.
     ensures exact { IfSome (S.left source.old) (λ input. IsExact (map string_bytes words.now) input result) }
@@ -55,7 +55,8 @@ fn serve<S: Source, K: Sink>(
     ensures untouched { (AreCommand (map string_bytes words.now) → ⊥) → source.new ≡ source.old }
     ensures drained { AreCommand (map string_bytes words.now) → (result ≡ Status.ReadFault → ⊥) → (result ≡ Status.NoMemory → ⊥)
         → Drains (S.left source.old) (S.left source.new) }
-    ensures no_memory { result ≡ Status.NoMemory → (source.new ≡ source.old) ⊎ IsAtEnd (S.left source.new) }
+    ensures no_memory { result ≡ Status.NoMemory → (source.new ≡ source.old) ⊎ ReadsWithin (S.left source.old) (S.left source.new) }
+    ensures taken { TakesWithin (S.left source.old) (S.left source.new) }
 {
     match command_of(words) {
         Ok(command) => serve_command(alloc, &command, words, source, sink),
@@ -104,7 +105,8 @@ fn serve_command<S: Source, K: Sink>(
     ensures read { result ≡ Status.ReadFault → CountsFault (S.faults source.old) (S.faults source.new) }
     ensures write { result ≡ Status.WriteFault → CountsFault (K.faults sink.old) (K.faults sink.new) }
     ensures drained { (result ≡ Status.ReadFault → ⊥) → (result ≡ Status.NoMemory → ⊥) → Drains (S.left source.old) (S.left source.new) }
-    ensures no_memory { result ≡ Status.NoMemory → (source.new ≡ source.old) ⊎ IsAtEnd (S.left source.new) }
+    ensures no_memory { result ≡ Status.NoMemory → (source.new ≡ source.old) ⊎ ReadsWithin (S.left source.old) (S.left source.new) }
+    ensures taken { TakesWithin (S.left source.old) (S.left source.new) }
 {
     match read_all(alloc, source, LIMIT) {
         Ok(input) => reply(alloc, command, words, &input, sink),
