@@ -92,3 +92,8 @@ chosen-size [] ls e = refl
 chosen-size (a ∷ A) [] e = absurd (omega arith)
 chosen-size (true ∷ A) (l ∷ ls) e = omega (arith, count-cons (λ (x : Line). true) l (chosen A ls), count-cons (λ (b : Bool). b) true A, chosen-size A ls (omega arith))
 chosen-size (false ∷ A) (l ∷ ls) e = omega (arith, count-cons (λ (b : Bool). b) false A, chosen-size A ls (omega arith))
+
+-- all lines
+pub chosen-whole : (ls : List Line) → chosen (replicate (length ls) true) ls ≡ ls
+chosen-whole [] = refl
+chosen-whole (l ∷ ls) = ap (λ xs. l ∷ xs) (chosen-whole ls)

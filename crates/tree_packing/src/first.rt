@@ -1,6 +1,9 @@
-ghost use Rattle.std.specs.Prelude.{◌≡◌, ◌<◌, ◌≤◌, [], ◌∷◌, length, replicate, IfOk};
-ghost use Rattle.graph_core.specs.Side.{complement, IsProper};
+ghost use Rattle.std.specs.Prelude.{◌≡◌, ◌<◌, ◌≤◌, ℕ, Bool, List, [], ◌∷◌, length, replicate, IfOk};
+ghost use Rattle.graph_core.specs.Lines.{degree};
+ghost use Rattle.graph_core.specs.Side.{complement, IsOnly, IsProper};
+ghost use Rattle.graphic_matroid.specs.Components.{AreComponents};
 ghost use Rattle.problem_defs.specs.Trees.{Suits, IsDual};
+ghost use Rattle.tree_packing.specs.Start.{IsWithinSingles, IsWithinNodes, IsStart};
 
 use crate::packing::bound_of;
 use graph_core::{Graph, Marks, NoMemory, Side, Sides};
@@ -11,9 +14,9 @@ use std::alloc::Global;
 /// else the single nodes, or a node of least degree against the rest.
 pub(crate) fn first_partition(alloc: Global, graph: &Graph) -> Result<Sides, NoMemory>
     requires { Suits graph.now }
-    ensures { IfOk result (IsDual graph.now) }
+    ensures { IfOk result (IsStart graph.now) }
 {
-    let whole = components(alloc, graph, &marks(alloc, graph.line_count(), true)?)?;
+    let whole = all_joined(alloc, graph)?;
     if whole.len() >= 2 {
         return Ok(whole);
     }
@@ -26,10 +29,19 @@ pub(crate) fn first_partition(alloc: Global, graph: &Graph) -> Result<Sides, NoM
     }
 }
 
+/// The components of the graph.
+fn all_joined(alloc: Global, graph: &Graph) -> Result<Sides, NoMemory>
+    ensures { IfOk result (AreComponents (length graph.now.names) graph.now.lines) }
+{
+    let all = marks(alloc, graph.line_count(), true)?;
+    components(alloc, graph, &all)
+}
+
 /// Each node alone.
 fn single_nodes(alloc: Global, graph: &Graph) -> Result<Sides, NoMemory>
     requires { Suits graph.now }
-    ensures { IfOk result (IsDual graph.now) }
+    ensures dual { IfOk result (IsDual graph.now) }
+    ensures singles { IfOk result (IsWithinSingles graph.now) }
 {
     let none = marks(alloc, graph.line_count(), false)?;
     components(alloc, graph, &none)
@@ -45,8 +57,10 @@ fn marks(alloc: Global, lines: usize, on: bool) -> Result<Marks, NoMemory>
 /// A node of least degree against the rest.
 fn node_and_rest(alloc: Global, graph: &Graph) -> Result<Sides, NoMemory>
     requires { Suits graph.now }
-    ensures { IfOk result (IsDual graph.now) }
+    ensures dual { IfOk result (IsDual graph.now) }
+    ensures nodes { IfOk result (IsWithinNodes graph.now) }
 {
+    graph.known();
     let node = least_node(alloc, graph)?;
     halves(alloc, node)
 }
@@ -66,7 +80,8 @@ fn halves(alloc: Global, side: Side) -> Result<Sides, NoMemory>
 /// A node of least degree, alone.
 fn least_node(alloc: Global, graph: &Graph) -> Result<Side, NoMemory>
     requires { 2 ≤ length graph.now.names }
-    ensures { IfOk result (IsProper (length graph.now.names)) }
+    ensures proper { IfOk result (IsProper (length graph.now.names)) }
+    ensures least { IfOk result (λ X. (Y : List Bool) (v : ℕ) → length Y ≡ length graph.now.names → IsOnly Y v → degree X graph.now.lines ≤ degree Y graph.now.lines) }
 {
     graph.known();
     let n = graph.node_count();
@@ -76,7 +91,7 @@ fn least_node(alloc: Global, graph: &Graph) -> Result<Side, NoMemory>
     for v in 1..n as u32 {
         node.hold_only(v);
         if graph.degree(&node) < graph.degree(&least) {
-            least.hold_only(v);
+            least.set_to(&node);
         }
     }
     Ok(least)
