@@ -3,7 +3,7 @@ use Rattle.std.specs.Prelude.{ℕ, ◌≡◌, ◌+◌, ◌-◌, ◌<◌, ◌≤�
 use Rattle.std.proofs.Common.{ap, inl, inr, arith}
 use Rattle.std.proofs.lemmas.Bool.{cases_lt, cases_eq}
 use Rattle.std.proofs.lemmas.List.{get_or_past, get_or-set_same, get_or-set_other}
-use Rattle.std.proofs.lemmas.List.Sums.{sum_by-set, get_or-le-sum_by}
+use Rattle.std.proofs.lemmas.List.Sums.{sum_by-set}
 use Rattle.graph_core.specs.Side.{has, meet, join}
 use Rattle.graph_core.proofs.SideLaws.{has-zip2}
 use Rattle.graph_core.proofs.LineLaws.{two_sums-le}
@@ -29,9 +29,6 @@ left_within arcs j left =
       | inl l ↦ l
       | inr past ↦ let none : (cap_at arcs j).cap ≡ 0 = ap (λ a. a.cap) (get_or_past arcs j no_arc past) in absurd (omega arith)
     ]
-
-pub leaving-le-capacity : (arcs : List Cap) (j : ℕ) (X : List Bool) → j < length arcs → leaving X (cap_at arcs j) ≤ capacity X arcs
-leaving-le-capacity arcs j X l = get_or-le-sum_by (leaving X) arcs j no_arc l
 
 across_less : (a b : Bool) (r : ℕ) → 0 < r → across a b (r - 1) + across a b 1 ≡ across a b r
 across_less true true r h = refl

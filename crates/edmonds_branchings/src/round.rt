@@ -1,6 +1,6 @@
 ghost use Rattle.std.specs.Prelude.{◌≡◌, ◌<◌, ◌≤◌, ◌+◌, ◌-◌, ℕ, length, slice_set, true, false, All, IfOk, OnOk};
 ghost use Rattle.graph_core.specs.Graph.{IsWithinSize};
-ghost use Rattle.graph_core.specs.Side.{size};
+ghost use Rattle.graph_core.specs.Side.{has, size};
 ghost use Rattle.edmonds_branchings.specs.Network.{cap_at, taken, AreEnds, IsLeft};
 ghost use Rattle.edmonds_branchings.specs.Round.{IsRound, IsFree, IsEligible, AreRefused, HasCapacity};
 ghost use Rattle.edmonds_branchings.specs.Row.{row_with, IsMade};
@@ -21,8 +21,42 @@ fn is_eligible(arcs: &[Cap], covered: &Side, j: usize) -> bool
     arc.cap > 0 && covered.has(arc.head) && !covered.has(arc.tail)
 }
 
-/// The number of an arc from a node that isn't covered to one that is, which may be taken. An arc that may not is refused,
-/// and isn't tried again.
+/// Whether arc `j` may be taken, where it leads from a node that isn't covered to one that is. An arc that may not is
+/// refused, and isn't tried again.
+fn try_step(
+    alloc: Global,
+    n: usize,
+    arcs: &[Cap],
+    covered: &Side,
+    refused: &mut Side,
+    j: usize,
+    k: u32,
+) -> Result<bool, NoMemory>
+    requires nodes { n ≤ 4096 }
+    requires few { length arcs.now ≤ 8192 }
+    requires ends { AreEnds n arcs.now }
+    requires covered { length covered.now ≡ n + 1 }
+    requires number { j < length arcs.now }
+    requires long { length refused.old ≡ length arcs.now }
+    requires refused { AreRefused n k arcs.now refused.old }
+    ensures long { length refused.new ≡ length arcs.now }
+    ensures refused { AreRefused n k arcs.now refused.new }
+    ensures kept { (i : ℕ) → has refused.old i ≡ true → has refused.new i ≡ true }
+    ensures eligible { IfOk result (λ may. may ≡ true → IsEligible arcs.now covered.now j) }
+    ensures free { IfOk result (λ may. may ≡ true → IsFree n k arcs.now j) }
+    ensures tried { IfOk result (λ may. may ≡ false → IsEligible arcs.now covered.now j → has refused.new j ≡ true) }
+{
+    if !is_eligible(arcs, covered, j) || refused.has(j as u32) {
+        return Ok(false);
+    }
+    let may = may_take(alloc, n, arcs, j, k)?;
+    if !may {
+        refused.put(j as u32, true);
+    }
+    Ok(may)
+}
+
+/// The number of an arc from a node that isn't covered to one that is, which may be taken.
 fn find_step(
     alloc: Global,
     n: usize,
@@ -45,11 +79,8 @@ fn find_step(
     ensures free { IfOk result (IsFree n k arcs.now) }
 {
     for j in 0..arcs.len() {
-        if is_eligible(arcs, covered, j) && !refused.has(j as u32) {
-            if may_take(alloc, n, arcs, j, k)? {
-                return Ok(j);
-            }
-            refused.put(j as u32, true);
+        if try_step(alloc, n, arcs, covered, refused, j, k)? {
+            return Ok(j);
         }
     }
     unreachable!("some arc may be taken")
