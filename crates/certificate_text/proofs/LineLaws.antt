@@ -1,12 +1,12 @@
 -- A line by its first word, an ask by its verb.
-use Rattle.std.proofs.Common.{◌≡◌, ℕ, ◌<◌, ◌^◌, List, [], ◌∷◌, length, refl, sym, ap, subst, ◌∙◌, Option, None, Some, Result, Ok, Err}
+use Rattle.std.proofs.Common.{◌≡◌, ℕ, ◌<◌, ◌^◌, List, [], ◌∷◌, length, refl, sym, ap, ◌∙◌, Option, None, Some, Result, Ok, Err}
 use Rattle.std.specs.Prelude.{IfOk, codes}
 use Rattle.std.specs.Fmt.{decimal}
 use Rattle.std.specs.List.{slice_split, join_with_byte}
 use Rattle.std.proofs.lemmas.List.Splits.{join_with_byte-slice_split}
 use Rattle.graph_core.specs.Graph.{GraphValue, IsGraph}
 use Rattle.graph_core.specs.declared.NoMemory.{NoMemory}
-use Rattle.problem_defs.specs.Ask.{misfit_of, KIsInRange}
+use Rattle.problem_defs.specs.Ask.{KIsInRange}
 use Rattle.problem_defs.specs.declared.ask.Ask.{Ask}
 use Rattle.problem_defs.specs.declared.ask.Ask.TheVariants as ask
 use Rattle.certificate_text.specs.declared.line.CertLine.{CertLine}
@@ -20,7 +20,7 @@ use Rattle.certificate_text.specs.Keywords.{keyword_word, verb_word, NamesNodes}
 use Rattle.certificate_text.specs.Valid.{IsValid}
 use Rattle.certificate_text.specs.Words.{words, spelled, ask_words, name_of}
 use Rattle.certificate_text.specs.WordsLeft.{is_blank}
-use Rattle.certificate_text.proofs.SpellLaws.{behind, head_word, clash, split-spelled, ask-same, names-nodes}
+use Rattle.certificate_text.proofs.SpellLaws.{behind, head_word, clash, split-spelled}
 
 abbrev keyword_of_line : CertLine → Keyword
 keyword_of_line line.Title = key.Certificate
@@ -79,12 +79,6 @@ ask-head g ask.Dijoin = refl
 
 pub no-verb : (g : GraphValue) (word : List ℕ) (rest ws : List (List ℕ)) → ws ≡ word ∷ rest → ((v : Verb) → Unit {0} → verb_word v ≡ word → ⊥) → (a : Ask) → ask_words g a ≡ ws → ⊥
 no-verb g word rest ws split none a e = none (verb_of_ask a) tt (sym (ask-head g a) ∙ ap head_word (e ∙ split))
-
--- the ask of these words doesn't suit the graph, so none of these words does
-pub no-suited : (g : GraphValue) (a : Ask) (ws : List (List ℕ)) → IsGraph g → KIsInRange a → NamesNodes (length g.names) a → ask_words g a ≡ ws → (misfit_of g a ≡ None → ⊥) → (b : Ask) → KIsInRange b × (misfit_of g b ≡ None) → ask_words g b ≡ ws → ⊥
-no-suited g a ws is k nodes said unfit b ok e =
-    let same : b ≡ a = ask-same g b a is ok.0 (names-nodes g b ok.1) k nodes (e ∙ sym said) in
-    unfit (subst (λ (x : Ask). misfit_of g x ≡ None) same ok.1)
 
 -- a line is found by its words
 pub by-words : (g : GraphValue) (l : List ℕ) (r : Result (Option CertLine) NoMemory) → IsGraph g → IfOk r (Finds (IsValid g) (words g) (slice_split is_blank l)) → IfOk r (Finds (IsValid g) (spelled g) l)

@@ -1,15 +1,15 @@
 -- Two lines that may stand in a certificate of one graph and are spelled alike are one.
-use Rattle.std.proofs.Common.{◌≡◌, ◌≢◌, ℕ, suc, ◌+◌, ◌<◌, ◌≤◌, ◌==◌, ◌&&◌, ◌||◌, nat_le, Bool, true, false, cond, List, [], ◌∷◌, length, get_or, refl, sym, ap, ◌∙◌, inl, inr, All, None, Some, Option, true≢false, eq-eqb, arith}
+use Rattle.std.proofs.Common.{◌≡◌, ◌≢◌, ℕ, suc, ◌+◌, ◌<◌, ◌≤◌, ◌==◌, ◌&&◌, Bool, true, false, List, [], ◌∷◌, length, get_or, refl, sym, ap, ◌∙◌, inl, inr, All, None, true≢false, eq-eqb, arith}
 use Rattle.std.specs.Prelude.{AllPairs}
 use Rattle.std.specs.List.{list_all, slice_split, join_with_byte}
 use Rattle.std.specs.Fmt.{decimal}
 use Rattle.std.proofs.lemmas.Fmt.{decimal_injective}
 use Rattle.std.proofs.lemmas.Bool.{cases_lt}
-use Rattle.std.proofs.lemmas.Bool.Decides.{nat_tests}
 use Rattle.std.proofs.lemmas.List.Elements.{All-head, All-tail}
 use Rattle.graph_core.specs.Graph.{GraphValue, IsGraph}
 use Rattle.graph_core.specs.Name.{IsName}
-use Rattle.problem_defs.specs.Ask.{misfit_of, KIsInRange, has_wrong_kind}
+use Rattle.problem_defs.specs.Ask.{misfit_of, KIsInRange}
+use Rattle.problem_defs.proofs.Suited.{flow_suits, arborescences_suits}
 use Rattle.problem_defs.specs.declared.ask.Ask.{Ask}
 use Rattle.problem_defs.specs.declared.ask.Ask.TheVariants as ask
 use Rattle.certificate_text.specs.declared.line.CertLine.{CertLine}
@@ -42,24 +42,11 @@ head_word (w ∷ ws) = w
 
 -- ---- what suits has its nodes
 
-none-right : {X : Type 0} (b : Bool) (x : X) (o : Option X) → cond b (Some x) o ≡ None → (b ≡ false) × (o ≡ None)
-none-right true x o e = cc
-none-right false x o e = (refl, e)
-
-not-or : (a b : Bool) → (a || b) ≡ false → (a ≡ false) × (b ≡ false)
-not-or true b e = absurd (true≢false e)
-not-or false b e = (refl, e)
-
-below : (n v : ℕ) → nat_le n v ≡ false → v < n
-below n v e = grind (arith, nat_tests)
-
 flow-nodes : (g : GraphValue) (s t : ℕ) → misfit_of g (ask.Flow s t) ≡ None → (s < length g.names) × (t < length g.names)
-flow-nodes g s t e =
-    let both = not-or (nat_le (length g.names) s) (nat_le (length g.names) t) (none-right (nat_le (length g.names) s || nat_le (length g.names) t) _ _ e).0 in
-    (below _ s both.0, below _ t both.1)
+flow-nodes g s t e = let suits = flow_suits g s t e in (suits.from, suits.to)
 
 root-node : (g : GraphValue) (r : ℕ) → misfit_of g (ask.Arborescences r) ≡ None → r < length g.names
-root-node g r e = below _ r (none-right (nat_le (length g.names) r) _ _ (none-right (has_wrong_kind g.kind (ask.Arborescences r)) _ _ e).1).0
+root-node g r e = (arborescences_suits g r e).root
 
 -- ---- names
 

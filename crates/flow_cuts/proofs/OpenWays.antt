@@ -56,9 +56,6 @@ SameEnds-pushed ls s a lt =
       ];
     }
 
-pub SameEnds-refl : (ls : List Link) → SameEnds ls ls
-SameEnds-refl ls = record { len = refl; from = λ s. refl; to = λ s. refl }
-
 pub SameEnds-trans : (a b c : List Link) → SameEnds a b → SameEnds b c → SameEnds a c
 SameEnds-trans a b c x y = record { len = y.len ∙ x.len; from = λ s. y.from s ∙ x.from s; to = λ s. y.to s ∙ x.to s }
 

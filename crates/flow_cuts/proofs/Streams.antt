@@ -91,10 +91,6 @@ pub record IsTakenFrom (n : ℕ) (inside outside : List Bool) (sent : List Link)
   pub surplus : (X : List Bool) → Separates n inside outside X →
       room_leaving X sent + at_outside (has X end) 1 ≡ (r + entering X sent) + at_outside (has X v) 1
 
-pub IsTakenFrom-start : (n : ℕ) (inside outside : List Bool) (sent : List Link) (r end : ℕ) → IsStream n inside outside sent r →
-    IsTakenFrom n inside outside sent r end end
-IsTakenFrom-start n inside outside sent r end stream = record { surplus = λ X sep. omega (arith, stream.surplus X sep) }
-
 pub IsTakenFrom-step : (n : ℕ) (inside outside : List Bool) (sent : List Link) (r end : ℕ) (s : Step) → s.link < length sent → 0 < room_at sent s →
     IsTakenFrom n inside outside sent r end (to_at sent s) → IsTakenFrom n inside outside (taken sent s) r end (from_at sent s)
 IsTakenFrom-step n inside outside sent r end s lt room old = record {
@@ -162,9 +158,6 @@ IsLess-taken ls s lt = record {
     | inr h ↦ let e = ap (λ l. room_of l t.way) h.1 in omega arith
   ];
 }
-
-pub IsLess-refl : (ls : List Link) → IsLess ls ls
-IsLess-refl ls = record { at = λ s. omega arith }
 
 pub IsLess-trans : (a b c : List Link) → IsLess a b → IsLess b c → IsLess a c
 IsLess-trans a b c x y = record { at = λ s. omega (arith, x.at s, y.at s) }

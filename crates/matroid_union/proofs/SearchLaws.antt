@@ -1,7 +1,7 @@
 -- The steps of a search.
-use Rattle.std.proofs.Common.{ℕ, ◌≡◌, ◌+◌, ◌<◌, ◌≤◌, Bool, true, false, cond, ◌⊎◌, inl, inr, List, [], ◌∷◌, ◌++◌, length, get_or, set, replicate, Option, Some, None, sym, refl, ap, ◌∙◌, arith, ⊎_elim, subst}
+use Rattle.std.proofs.Common.{ℕ, ◌≡◌, ◌+◌, ◌<◌, ◌≤◌, Bool, true, false, cond, ◌⊎◌, inl, inr, List, [], ◌∷◌, ◌++◌, length, get_or, set, Option, Some, None, sym, refl, ap, ◌∙◌, arith, ⊎_elim, subst}
 use Rattle.std.proofs.lemmas.Bool.{cases_eq, cases_lt, both_ways, false_from_ne_true}
-use Rattle.std.proofs.lemmas.List.{length-replicate, get_or-replicate, get_or_past, length-set, get_or-set_same, get_or-set_other, get_or_append_left, get_or_push, length_push}
+use Rattle.std.proofs.lemmas.List.{length-set, get_or-set_same, get_or-set_other, get_or_append_left, get_or_push, length_push}
 use Rattle.std.proofs.lemmas.List.Sums.{sum_by-set}
 use Rattle.graph_core.specs.Side.{has, size}
 use Rattle.matroid_union.specs.Matroid.{IsMatroid}
@@ -195,19 +195,6 @@ module _ (n : ℕ) (free : List Bool → Type 0) (m : IsMatroid n free) (k : ℕ
     full = λ i l. ⊎_elim (λ e. rw e here) (λ ne. s.full i (omega arith)) (cases_eq i at);
   }
 
-  pub search_none : (dead reached : List Bool) (queue back : List ℕ) (at : ℕ) → IsSearch n free k own dead reached queue back at → IsSearch n free k own dead reached queue back 0
-  search_none dead reached queue back at s = record {
-    reached_long = s.reached_long;
-    back_long = s.back_long;
-    count = s.count;
-    tree = s.tree;
-    marked = s.marked;
-    alive = s.alive;
-    older = s.older;
-    queued = s.queued;
-    full = λ i l. absurd (omega arith);
-  }
-
   -- the start of a search, from an element that no part has
   pub search_start : (dead : List Bool) (e : ℕ) → length dead ≡ n → e < n → own e ≡ None → has dead e ≡ false → IsSearch n free k own dead (set dead e true) (e ∷ []) (0 ∷ []) 0
   search_start dead e long le none alive =
@@ -245,15 +232,6 @@ module _ (n : ℕ) (free : List Bool → Type 0) (m : IsMatroid n free) (k : ℕ
         (λ place p lp out. subst (λ x. free (set_of n (plus (kept own reached p n) x)) → ⊥) place.is (s.full place.at place.below p lp (ap (part own p) place.is ∙ out)))
         (s.queued e h);
   }
-
-  pub dead_none : AreDead n free k own (replicate n false)
-  dead_none = record {
-    long = length-replicate n false;
-    full = λ e h. absurd (both_ways (has (replicate n false) e) (none e) h);
-  }
-    where
-      none : (e : ℕ) → has (replicate n false) e ≡ false
-      none e = ⊎_elim (λ l. get_or-replicate n e false false l) (λ l. get_or_past (replicate n false) e false (rw (length-replicate n false) l)) (cases_lt e n)
 
   -- where no dead element moves, the dead stay dead
   pub dead_kept : (dead : List Bool) (own' : ℕ → Option ℕ) → ((e : ℕ) → has dead e ≡ true → own' e ≡ own e) → AreDead n free k own dead → AreDead n free k own' dead
