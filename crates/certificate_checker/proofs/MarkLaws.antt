@@ -10,6 +10,7 @@ use Rattle.std.proofs.lemmas.List.Sums.{sum_by_more, sum_by_more_le}
 use Rattle.graph_core.specs.Picked.{occurrences}
 use Rattle.graph_core.specs.Side.{has}
 use Rattle.graph_core.proofs.Counting.{sum_by-concat}
+use Rattle.graph_core.proofs.SideLaws.{has-none}
 use Rattle.certificate_checker.specs.Marks.{mark}
 
 pub mark-twice : (x i before : ℕ) (X : List Bool) (row : List ℕ) → i < length row → get_or row i 0 ≡ x → has X x ≡ true → mark X x ≡ before + occurrences x (take i row) → 2 ≤ before + occurrences x row
@@ -19,11 +20,6 @@ mark-twice x i before X row in_row is marked known =
     let here : cond {A = ℕ} (get_or row i 0 == x) 1 0 ≡ 1 = ap (λ b. cond {A = ℕ} b 1 0) same in
     let one : mark X x ≡ 1 = ap (λ b. cond {A = ℕ} b 1 0) marked in
     omega arith
-
-all-false : (n j : ℕ) → has (replicate n false) j ≡ false
-all-false zero j = refl
-all-false (suc n) zero = refl
-all-false (suc n) (suc j) = all-false n j
 
 in_rows : (x : ℕ) (rows : List (List ℕ)) → occurrences x (concat rows) ≡ sum_by (occurrences x) rows
 in_rows x rows = sum_by-concat (λ k. cond (k == x) 1 0) rows
@@ -39,7 +35,7 @@ row-more-le x i rows d within =
     omega arith
 
 pub unmarked : (n j : ℕ) → mark (replicate n false) j ≡ 0
-unmarked n j = ap (λ b. cond {A = ℕ} b 1 0) (all-false n j)
+unmarked n j = ap (λ b. cond {A = ℕ} b 1 0) (has-none n j)
 
 pub mark-le : (X : List Bool) (j : ℕ) → mark X j ≤ 1
 mark-le X j = elim (has X j) as (λ b. cond {A = ℕ} b 1 0 ≤ 1) [ true ↦ lit≤ tt | false ↦ lit≤ tt ]

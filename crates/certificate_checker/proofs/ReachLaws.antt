@@ -11,18 +11,6 @@ use Rattle.graph_core.proofs.Counting.{weight}
 use Rattle.graph_core.proofs.FamilyLaws.{count_by-le}
 use Rattle.certificate_checker.specs.TreeSides.{pair_at, inside, AreUncrossed, AddsOther, IsGrown, IsReach}
 
-pub has-put : (X : List Bool) (v : ℕ) → v < length X → has (slice_set X v true) v ≡ true
-has-put [] v l = absurd (omega arith)
-has-put (x ∷ X) zero l = refl
-has-put (x ∷ X) (suc v) l = has-put X v (omega arith)
-
-pub put-keeps : (X : List Bool) (v w : ℕ) → has X w ≡ true → has (slice_set X v true) w ≡ true
-put-keeps [] v w h = h
-put-keeps (x ∷ X) zero zero h = refl
-put-keeps (x ∷ X) zero (suc w) h = h
-put-keeps (x ∷ X) (suc v) zero h = h
-put-keeps (x ∷ X) (suc v) (suc w) h = put-keeps X v w h
-
 pub grown-same : (pairs : List (ℕ × ℕ × ℕ)) (X : List Bool) → IsGrown pairs X X
 grown-same pairs X = record { long = refl; keeps = λ w h. h; paid = omega arith }
 

@@ -12,7 +12,7 @@ use Rattle.graph_core.specs.Graph.{GraphValue, Fits, line_of}
 use Rattle.graph_core.proofs.SideLaws.{has-zip2, has-complement, contains-has}
 use Rattle.graph_core.proofs.SplitLaws as split
 use Rattle.graph_core.specs.declared.graph.Line.{Line}
-use Rattle.graph_core.proofs.Counting.{weight, All-both}
+use Rattle.graph_core.proofs.Counting.{weight, All-both, none-pass}
 use Rattle.graph_core.proofs.FamilyLaws.{size-nonempty, count_by-map}
 use Rattle.problem_defs.specs.CutTree.{tree_lines, IsSpanningTree, IsLeastCut}
 use Rattle.certificate_checker.specs.TreeSides.{pair_at, inside, AreUncrossed, IsReach, NoneIsLess}
@@ -133,16 +133,6 @@ crossed g pairs tree nodes X u v e h in_u out_v l =
     let many = tree.many in
     omega (arith, induced-tree X pairs, induced-tree Y pairs, size-complement X, inside-halves (length g.names) X e pairs nodes h)
 
-none-counted : {A : Type 0} (p : A → Bool) (xs : List A) → count_by p xs ≡ 0 → All (λ x. p x ≡ false) xs
-none-counted p [] h = All-nil (λ x. p x ≡ false)
-none-counted p (x ∷ xs) h =
-    let total = sum_by-cons (λ y. weight (p y)) x xs in
-    All-cons (λ y. p y ≡ false) x xs (off (p x) (omega arith)) (none-counted p xs (omega arith))
-  where
-    off : (b : Bool) → weight b ≡ 0 → b ≡ false
-    off true e = absurd (omega arith)
-    off false e = refl
-
 alike : (a c : Bool) → differ a c ≡ false → a ≡ c
 alike true true h = refl
 alike true false h = absurd cc
@@ -161,7 +151,7 @@ one-side g pairs tree nodes j S X l s e holds misses one =
     let here : cross (pair_at pairs j) ≡ true = (λ z. differ (holds z) (misses z)) in
     let all = sum_by-remove (λ (p : ℕ × ℕ × ℕ). weight (differ (has X p.0) (has X p.1))) pairs j (0, 0, 0) l in
     let none : count_by cross (remove pairs j) ≡ 0 = omega (arith, ap weight here, degree-tree X pairs) in
-    let others = none-counted cross (remove pairs j) none in
+    let others = none-pass cross (remove pairs j) none in
     let same : length X ≡ length S = e ∙ sym s.long in
     let D : List Bool = zip2 differ X S in
     let at : (v : ℕ) → has D v ≡ differ (has X v) (has S v) = λ v. has-zip2 differ refl X S v same in

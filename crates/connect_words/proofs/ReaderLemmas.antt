@@ -1,5 +1,5 @@
 -- What the reader finds in the words, as a command or as the first bad place.
-use Rattle.std.proofs.Common.{◌≡◌, ℕ, suc, ◌+◌, ◌<◌, ◌≤◌, ◌⊎◌, List, [], ◌∷◌, Option, Some, length, slice_get, sym, ◌∙◌, ap, subst, arith, add-one, inl, inr}
+use Rattle.std.proofs.Common.{◌≡◌, ℕ, ◌+◌, ◌<◌, ◌≤◌, ◌⊎◌, List, [], ◌∷◌, Option, Some, length, slice_get, sym, ◌∙◌, ap, subst, arith, add-one, inl, inr}
 use Rattle.connect_words.specs.declared.command.Command.{Command}
 use Rattle.connect_words.specs.declared.slot.Verb.{Verb}
 use Rattle.connect_words.specs.declared.slot.Slot.{Slot}
@@ -38,12 +38,6 @@ filled_is_bad (w ∷ ws) v ss n f wrong = subst (λ u. IsFirstBadPlace (u ∷ ws
 
     next : n < length ss → (n < length (slots v)) × (Takes (slice_get (slots v) n) (slice_get ws n) → ⊥)
     next below = (subst (λ s. n < length s) f.slots_are below, λ t. f.stop below (ahead w ws (slice_get ss n) n (subst (λ s. Takes (slice_get s n) (slice_get ws n)) (sym f.slots_are) t)))
-
-collect : (ss : List Slot) (ws : List (List ℕ)) → ((at : ℕ) → at < length ss → Takes (slice_get ss at) (slice_get ws at)) → length ws ≤ length ss → SuitAll ss ws
-collect [] [] h few = tt
-collect [] (w ∷ ws) h few = absurd (omega (arith, few))
-collect (s ∷ ss) [] h few = absurd (h 0 (omega arith))
-collect (s ∷ ss) (w ∷ ws) h few = (h 0 (omega arith), collect ss ws (λ at below. h (suc at) (omega (arith, below))) (omega (arith, few)))
 
 write_all : (command : Command) (ws : List (List ℕ)) (ss : List Slot) (v : Verb) (w : List ℕ) → v ≡ verb_of command → w ≡ verb_word v → ss ≡ slots v → SuitAll ss ws → Reads (w ∷ ws) command → Writes command (w ∷ ws)
 write_all command ws ss v w verb_is word_is slots_are suit reads =

@@ -1,12 +1,13 @@
 -- The begin of a round.
-use Rattle.std.specs.Prelude.{ℕ, zero, suc, ◌≡◌, ◌≢◌, ◌+◌, ◌<◌, Bool, true, false, List, [], length, replicate, slice_set, refl}
+use Rattle.std.specs.Prelude.{ℕ, ◌≡◌, ◌≢◌, ◌+◌, ◌<◌, Bool, true, false, List, [], length, replicate, slice_set}
 use Rattle.std.proofs.Common.{sym, ap, ◌∙◌, subst, arith}
 use Rattle.std.proofs.lemmas.List.{length-set, length-replicate, get_or-set_other}
 use Rattle.std.proofs.lemmas.List.Elements.{All-nil}
-use Rattle.std.proofs.lemmas.List.Sums.{sum_by-cons}
 use Rattle.graph_core.specs.Side.{has, size}
 use Rattle.graph_core.proofs.Counting.{weight}
 use Rattle.graph_core.proofs.FamilyLaws.{size-nonempty}
+use Rattle.graph_core.proofs.SideLaws.{has-none}
+use Rattle.graph_core.proofs.SizeLaws.{size-none}
 use Rattle.graph_core.specs.declared.graph.Line.{Line}
 use Rattle.flow_cuts.specs.declared.network.Cap.{Cap}
 use Rattle.edmonds_branchings.specs.Network.{IsLeft}
@@ -14,15 +15,6 @@ use Rattle.edmonds_branchings.specs.Round.{HasCapacity, IsRound, AreRefused}
 use Rattle.edmonds_branchings.specs.Row.{IsRow}
 use Rattle.edmonds_branchings.proofs.Row.{IsInner}
 use Rattle.graph_core.proofs.PutLaws.{put_here, size-put}
-
-none_of : (m v : ℕ) → has (replicate m false) v ≡ false
-none_of zero v = refl
-none_of (suc m) zero = refl
-none_of (suc m) (suc v) = none_of m v
-
-size-none : (m : ℕ) → size (replicate m false) ≡ 0
-size-none zero = refl
-size-none (suc m) = omega (arith, sum_by-cons weight false (replicate m false), size-none m)
 
 -- the last node alone is covered
 pub record IsBegun (n : ℕ) (T : List Bool) : Type 0 where
@@ -38,13 +30,13 @@ begun n T is =
     let P : List Bool → Type 0 = IsBegun n in
     subst P (sym is) (record {
       long = length-set none n true ∙ all;
-      one = omega (arith, size-put none n (omega arith) (none_of (n + 1) n), size-none (n + 1));
+      one = omega (arith, size-put none n (omega arith) (has-none (n + 1) n), size-none (replicate (n + 1) false) (has-none (n + 1)));
       last = put_here none n (omega arith);
-      others = λ v ne. get_or-set_other none n v true false ne ∙ none_of (n + 1) v;
+      others = λ v ne. get_or-set_other none n v true false ne ∙ has-none (n + 1) v;
     })
 
 pub none_refused : (n k : ℕ) (arcs : List Cap) (R : List Bool) (m : ℕ) → R ≡ replicate m false → AreRefused n k arcs R
-none_refused n k arcs R m is j h = absurd (cc (ap (λ S. has S j) is ∙ none_of m j, h))
+none_refused n k arcs R m is j h = absurd (cc (ap (λ S. has S j) is ∙ has-none m j, h))
 
 pub round_begun : {n k : ℕ} {arcs : List Cap} {T : List Bool} → HasCapacity n k arcs → IsBegun n T → IsRound n k arcs T
 round_begun h b = record { long = b.long; last = b.last; most = λ X x. omega (arith, h X x); apart = λ X x a. h X x }

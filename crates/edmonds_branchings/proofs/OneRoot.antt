@@ -1,29 +1,20 @@
 -- All branchings begin at one root.
-use Rattle.std.specs.Prelude.{ℕ, zero, suc, ◌≡◌, ◌<◌, ◌≤◌, ◌==◌, Bool, true, false, List, length, replicate, slice_set, slice_index, slice_index_or, count_by, All, refl}
+use Rattle.std.specs.Prelude.{ℕ, zero, suc, ◌≡◌, ◌<◌, ◌≤◌, ◌==◌, Bool, List, length, replicate, slice_set, slice_index, slice_index_or, All, refl}
 use Rattle.std.proofs.Common.{◌∙◌, inl, inr, arith}
 use Rattle.std.proofs.lemmas.Bool.{cases_Bool}
 use Rattle.std.proofs.lemmas.List.{length-set, length-replicate, get_or-set_same, get_or-set_other}
-use Rattle.std.proofs.lemmas.List.Sums.{get_or-le-sum_by}
 use Rattle.std.proofs.lemmas.List.Elements.{All-set, All-replicate}
 use Rattle.graph_core.specs.Graph.{Fits}
 use Rattle.graph_core.specs.Side.{has}
 use Rattle.graph_core.specs.Lines.{entering}
 use Rattle.graph_core.specs.Picked.{picked}
 use Rattle.graph_core.specs.Trees.{in_degree, IsSpanningArborescence}
-use Rattle.graph_core.proofs.Counting.{weight}
+use Rattle.graph_core.proofs.Counting.{none-pass}
 use Rattle.graph_core.specs.declared.graph.Line.{Line}
 use Rattle.edmonds_branchings.specs.LeastSide.{IsLeastSide}
 use Rattle.edmonds_branchings.specs.Rooted.{CanBePacked, ArePacked}
 use Rattle.edmonds_branchings.proofs.Arborescence.{spanning}
 use Rattle.graph_core.proofs.HeadLaws.{node-le-sum}
-
--- where no row passes, each fails
-none_pass : {A : Type 0} (p : A → Bool) (xs : List A) → count_by p xs ≡ 0 → All (λ x. p x ≡ false) xs
-none_pass p xs none j d l = no_weight (p _) (omega (arith, get_or-le-sum_by (λ x. weight (p x)) xs j d l))
-  where
-    no_weight : (b : Bool) → weight b ≤ 0 → b ≡ false
-    no_weight true h = absurd (omega arith)
-    no_weight false h = refl
 
 -- all branchings may begin at the root, and none elsewhere
 abbrev pub root_alone : ℕ → ℕ → ℕ → List ℕ
@@ -53,4 +44,4 @@ all_spanning {n} {k} {r} {ls} {rows} below fits are j d l =
     spanning r below fits (slice_index_or rows j d) (are.each j d l)
     (λ v lv ne.
     let none : slice_index (root_alone n r k) v ≡ 0 = get_or-set_other (replicate n 0) r v k 0 ne ∙ zero_at n v in
-    none_pass (λ row. in_degree v (picked ls row) == 0) rows (omega (arith, are.begin v lv, none)) j d l)
+    none-pass (λ row. in_degree v (picked ls row) == 0) rows (omega (arith, are.begin v lv, none)) j d l)

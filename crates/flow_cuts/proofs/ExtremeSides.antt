@@ -12,6 +12,7 @@ use Rattle.flow_cuts.specs.declared.network.Way.TheVariants.{Forth, Back}
 use Rattle.flow_cuts.specs.declared.search.Mark.{Mark}
 use Rattle.flow_cuts.specs.Residual.{from_of, to_of, room_of, link_at, from_at, to_at, room_at, mirrored, SameEnds, IsFlow}
 use Rattle.graph_core.specs.Side.{has}
+use Rattle.graph_core.proofs.SideLaws.{has-below}
 use Rattle.flow_cuts.specs.declared.network.Cap.{Cap}
 use Rattle.flow_cuts.specs.Network.{Separates}
 use Rattle.flow_cuts.specs.Cuts.{IsSmallestCut, IsLargestCut}
@@ -39,11 +40,6 @@ reached_all P ls inside ms f carried roots v lt = reached_by P ls inside ms f ca
 
 pub is_seen-level : (m : Mark) → is_seen m ≡ true → m.level < unseen
 is_seen-level m e = grind (arith, nat_tests)
-
-pub has_below : (X : List Bool) (v : ℕ) → has X v ≡ true → v < length X
-has_below [] v e = absurd (cc)
-has_below (b ∷ X) zero e = omega arith
-has_below (b ∷ X) (suc v) e = omega (arith, has_below X v e)
 
 -- X is the set of the nodes that are reached
 pub record IsReachedSet (X : List Bool) (ms : List Mark) : Type 0 where
@@ -183,7 +179,7 @@ pub record IsMissedSet (X : List Bool) (ms : List Mark) : Type 0 where
 
 missed_true : (X : List Bool) (ms : List Mark) → IsMissedSet X ms → (v : ℕ) → has X v ≡ true → (mark_at ms v).level < unseen → ⊥
 missed_true X ms set v h seen =
-    let e = set.at v (omega (arith, has_below X v h, set.len)) in
+    let e = set.at v (omega (arith, has-below X v h, set.len)) in
     let f = is_seen-of (mark_at ms v) seen in
     bool_apart (has X v) h (e ∙ ap not f)
 
@@ -202,7 +198,7 @@ IsLargestCut-missed n inside outside arcs links rows value ms ms' X len net flow
     (λ w h lt. omega (arith, missed.at w h)) v back in
     let separates : Separates n inside outside X = record {
       long = set.len ∙ s'.len;
-      holds = λ v h. true_missed X ms' set v (omega (arith, has_below inside v h, s'.len)) (λ back. fit v back (s.roots v h));
+      holds = λ v h. true_missed X ms' set v (omega (arith, has-below inside v h, s'.len)) (λ back. fit v back (s.roots v h));
       misses = λ v h. bool_false (has X v) (λ e. missed_true X ms' set v e (s'.roots v h));
     } in
     let closed : IsClosedSide X links = record {
@@ -218,7 +214,7 @@ IsLargestCut-missed n inside outside arcs links rows value ms ms' X len net flow
     record {
       cut = least_closed n inside outside arcs links value flow X separates closed;
       largest = λ Y cut. record {
-        at = λ v h. true_missed X ms' set v (omega (arith, has_below Y v h, cut.separates.long, s'.len)) (λ back.
+        at = λ v h. true_missed X ms' set v (omega (arith, has-below Y v h, cut.separates.long, s'.len)) (λ back.
             let shut = closed_least n inside outside arcs links value flow Y cut in
             let out : has Y v ≡ false =
             reached_all (λ w. has Y w ≡ false) (map mirrored links) outside ms' s'.forest
@@ -238,7 +234,7 @@ reached_set X ms len at = record {
   at = λ v. elim (below_or_not v (length ms)) [
     | inl lt ↦ at v lt
     | inr le ↦
-        bool_false (has X v) (λ e. omega (arith, has_below X v e)) ∙
+        bool_false (has X v) (λ e. omega (arith, has-below X v e)) ∙
         sym (bool_false (is_seen (mark_at ms v)) (λ e. omega (arith, seen_below ms v (is_seen-level (mark_at ms v) e))))
   ];
 }

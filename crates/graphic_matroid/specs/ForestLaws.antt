@@ -1,5 +1,5 @@
 -- The forests of a graph are the free sets of a matroid.
-use Rattle.std.proofs.Common.{ℕ, zero, suc, ◌≡◌, ◌+◌, ◌<◌, ◌≤◌, Bool, true, false, cond, eqb, ltb, ◌&&◌, List, [], ◌∷◌, length, get_or, set, map, take, replicate, count_by, sym, refl, ap, ◌∙◌, arith, ⊎_elim, subst, zero-add, add-one}
+use Rattle.std.proofs.Common.{ℕ, ◌≡◌, ◌+◌, ◌<◌, ◌≤◌, Bool, true, false, cond, eqb, ltb, ◌&&◌, List, [], ◌∷◌, length, get_or, set, map, take, replicate, count_by, sym, refl, ap, ◌∙◌, arith, ⊎_elim, subst, zero-add, add-one}
 use Rattle.std.specs.List.{range_with_len, sum_by}
 use Rattle.std.proofs.lemmas.Bool.{cases_Bool, ne_eqb, and_parts, and_from, and_left, not-false, ltb-true, false_from_ne_true, cases_eq}
 use Rattle.std.proofs.lemmas.List.Sums.{get_or-le-sum_by}
@@ -211,9 +211,3 @@ forest_front n A ls j f X w = let g : count_by (within X) (chosen A ls) < size X
 
 pub forest_none : (n : ℕ) → IsAcyclic n []
 forest_none n X w = size-nonempty X w.some_in
-
--- each line of a fit list is fit
-pub fit_at : (n : ℕ) (ls : List Line) (j : ℕ) (d : Line) → count_by (unfit n) ls ≡ 0 → j < length ls → unfit n (get_or ls j d) ≡ false
-fit_at n [] j d h l = absurd (omega arith)
-fit_at n (x ∷ ls) zero d h l = zero_weight (unfit n x) (omega (arith, count-cons (unfit n) x ls))
-fit_at n (x ∷ ls) (suc j) d h l = fit_at n ls j d (omega (arith, count-cons (unfit n) x ls)) (omega arith)

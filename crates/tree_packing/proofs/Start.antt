@@ -1,7 +1,7 @@
 -- Partitions with which a search for spanning trees begins.
-use Rattle.std.proofs.Common.{ℕ, ◌≡◌, ◌+◌, ◌-◌, ◌*◌, ◌/◌, ◌<◌, ◌≤◌, Bool, true, false, List, [], ◌∷◌, length, refl, sym, ap, ◌∙◌, arith, inl, inr}
+use Rattle.std.proofs.Common.{ℕ, ◌≡◌, ◌+◌, ◌-◌, ◌*◌, ◌<◌, ◌≤◌, Bool, true, false, List, [], ◌∷◌, length, refl, sym, ap, ◌∙◌, arith, inl, inr}
 use Rattle.std.specs.Prelude.{All, not, ◌&&◌, ◌||◌}
-use Rattle.std.proofs.Math.Nat.{zero-div, div-one, div-mul-le_self, mul-le-mul_left}
+use Rattle.std.proofs.Math.Nat.{div-one, div-mul-le_self, mul-le-mul_left}
 use Rattle.std.proofs.lemmas.Bool.{cases_eq, false_from_ne_true}
 use Rattle.std.proofs.lemmas.List.{ext_get_or, get_or_default}
 use Rattle.std.proofs.lemmas.List.Sums.{sum_by-cons, count_by-le-length}
@@ -16,7 +16,7 @@ use Rattle.graph_core.proofs.Counting.{weight, sum_by-agree}
 use Rattle.graph_core.proofs.SideLaws.{has-complement}
 use Rattle.graphic_matroid.specs.Components.{AreComponents}
 use Rattle.problem_defs.specs.Trees.{IsDual, bound}
-use Rattle.tree_packing.specs.Start.{IsWithinSingles, IsStart}
+use Rattle.tree_packing.specs.Start.{IsWithinSingles}
 
 -- ---- a node of least degree
 
@@ -48,18 +48,7 @@ least-next m n ls X Z W long z old le here Y v below same y =
 
 -- ---- the components
 
--- components that are two or more allow no tree
-pub start-components : (g : GraphValue) (P : List (List Bool)) → AreComponents (length g.names) g.lines P → 2 ≤ length P → IsStart g P
-start-components g P w two =
-    let none : bound g P ≡ 0 = ap (λ e. e / (length P - 1)) w.apart ∙ zero-div (length P - 1) in
-    record {
-      dual = record { partition = w.partition; classes = two };
-      singles = omega arith;
-      nodes = λ X v long x. omega arith;
-      apart = λ X proper d. none;
-    }
-
--- where they are one, each proper side has a line to the rest
+-- where the components are one, each proper side has a line to the rest
 pub crossed-whole : (n : ℕ) (ls : List Line) (P : List (List Bool)) → AreComponents n ls P → length P < 2 → (X : List Bool) → IsProper n X → 1 ≤ degree X ls
 crossed-whole n ls [] w few X proper =
     let (u, below, here) = proper.some_in in
