@@ -1,18 +1,13 @@
-use crate::answers::BACKBONE;
-use crate::run::answer;
-use std::alloc::{AllocError, Global};
+use crate::examples::{ARCS, PATH, SQUARE};
+use crate::run::{answer, joined, same};
+use std::alloc::Global;
+use std::process::Abort;
 use std::test::Fail;
 
-const SQUARE: &[u8] =
-    b"graph undirected\nnode a\nnode b\nnode c\nnode d\nedge a b\nedge b d\nedge a c\nedge c d\nend\n";
-
-const ARCS: &[u8] =
-    b"graph directed\nnode a\nnode b\nnode c\narc a b\narc b a\narc b c\narc a c\narc c b\nend\n";
-
-const PATH: &[u8] = b"graph undirected\nnode a\nnode b\nnode c\nedge a b\nedge b c\nend\n";
-
 // A graph, what follows it, the answer and the exit number.
-const CHECKS: [(&[u8], &[u8], &[u8], u8); 15] = [
+type Row<'a> = (&'a [u8], &'a [u8], &'a [u8], u8);
+
+const CHECKS: [Row<'static>; 23] = [
     (
         SQUARE,
         b"certificate 1\ncommand flow a d\nvalue 2\npath 1 2\npath 3 4\ndual cut\nset a\nend\n",
@@ -104,59 +99,67 @@ const CHECKS: [(&[u8], &[u8], &[u8], u8); 15] = [
         b"rejected malformed 2\n",
         2,
     ),
-];
-
-// Pairs of nodes, and what `check` says of them as a cut tree of the path.
-const TREES: [(&[u8], &[u8]); 8] = [
-    (b"tree a b 1\ntree b c 1\n", b"accepted\n"),
-    (b"tree c b 1\ntree a b 1\n", b"accepted\n"),
-    (b"tree a b 1\ntree b c 2\n", b"rejected dual\n"),
-    (b"tree a b 0\ntree b c 1\n", b"rejected dual\n"),
+    // Cut trees of the path.
+    (
+        PATH,
+        b"certificate 1\ncommand cuttree\ntree a b 1\ntree b c 1\nend\n",
+        b"accepted\n",
+        0,
+    ),
+    (
+        PATH,
+        b"certificate 1\ncommand cuttree\ntree c b 1\ntree a b 1\nend\n",
+        b"accepted\n",
+        0,
+    ),
+    (
+        PATH,
+        b"certificate 1\ncommand cuttree\ntree a b 1\ntree b c 2\nend\n",
+        b"rejected dual\n",
+        2,
+    ),
+    (
+        PATH,
+        b"certificate 1\ncommand cuttree\ntree a b 0\ntree b c 1\nend\n",
+        b"rejected dual\n",
+        2,
+    ),
     // The side of a and b holds c, too, and two edges leave it.
-    (b"tree a b 1\ntree a c 1\n", b"rejected dual\n"),
-    (b"tree a b 1\n", b"rejected infeasible\n"),
-    (b"tree a b 1\ntree b a 1\n", b"rejected infeasible\n"),
-    (b"tree a b 1\ntree c c 1\n", b"rejected infeasible\n"),
+    (
+        PATH,
+        b"certificate 1\ncommand cuttree\ntree a b 1\ntree a c 1\nend\n",
+        b"rejected dual\n",
+        2,
+    ),
+    (
+        PATH,
+        b"certificate 1\ncommand cuttree\ntree a b 1\nend\n",
+        b"rejected infeasible\n",
+        2,
+    ),
+    (
+        PATH,
+        b"certificate 1\ncommand cuttree\ntree a b 1\ntree b a 1\nend\n",
+        b"rejected infeasible\n",
+        2,
+    ),
+    (
+        PATH,
+        b"certificate 1\ncommand cuttree\ntree a b 1\ntree c c 1\nend\n",
+        b"rejected infeasible\n",
+        2,
+    ),
 ];
 
-// A command and its graph.
-const SOLVED: [(&str, &[u8]); 8] = [
-    ("cuttree", SQUARE),
-    ("cuttree", PATH),
-    ("cuttree", BACKBONE),
-    ("flow a d", SQUARE),
-    ("flow b c", SQUARE),
-    ("flow a c", ARCS),
-    ("flow c a", ARCS),
-    ("flow a c", PATH),
-];
-
-pub fn joined(alloc: Global, graph: &[u8], rest: &[u8]) -> Result<Vec<u8>, AllocError> {
-    let mut input = Vec::from_slice(alloc, graph)?;
-    input.extend_from_slice(rest)?;
-    Ok(input)
+fn are_checked(rt: &impl Abort, alloc: Global, rows: &[Row<'_>]) -> Result<(), Fail> {
+    for (graph, rest, text, number) in rows {
+        let (written, status) = answer(alloc, "check", &joined(alloc, graph, rest)?)?;
+        same(rt, &(written.as_slice(), status), &(*text, *number), rest);
+    }
+    Ok(())
 }
 
 #[test]
 fn certificates_are_accepted_or_rejected(rt: HostRuntime) -> Result<(), Fail> {
-    let alloc = rt.alloc();
-    for (graph, rest, text, number) in CHECKS {
-        let (written, status) = answer(alloc, "check", &joined(alloc, graph, rest)?)?;
-        assert_eq!(rt; written.as_slice(), text);
-        assert_eq!(rt; status, number);
-    }
-    for (pairs, text) in TREES {
-        let mut rest = Vec::from_slice(alloc, b"certificate 1\ncommand cuttree\n")?;
-        rest.extend_from_slice(pairs)?;
-        rest.extend_from_slice(b"end\n")?;
-        let (written, _) = answer(alloc, "check", &joined(alloc, PATH, &rest)?)?;
-        assert_eq!(rt; written.as_slice(), text);
-    }
-    for (words, graph) in SOLVED {
-        let (certificate, _) = answer(alloc, words, graph)?;
-        let (written, status) = answer(alloc, "check", &joined(alloc, graph, &certificate)?)?;
-        assert_eq!(rt; written.as_slice(), b"accepted\n".as_slice(), "{words}");
-        assert_eq!(rt; status, 0);
-    }
-    Ok(())
+    are_checked(&rt, rt.alloc(), &CHECKS)
 }
