@@ -1,4 +1,4 @@
-use crate::examples::{ARCS, PATH, SQUARE};
+use crate::examples::{ARCS, K4, PATH, SQUARE};
 use crate::run::{answer, joined, same};
 use std::alloc::Global;
 use std::process::Abort;
@@ -151,6 +151,74 @@ const CHECKS: [Row<'static>; 23] = [
     ),
 ];
 
+const CHANGED: [Row<'static>; 10] = [
+    // As it was answered, and with the paths exchanged.
+    (
+        SQUARE,
+        b"certificate 1\ncommand flow a d\nvalue 2\npath 3 4\npath 1 2\ndual cut\nset a\nend\n",
+        b"accepted\n",
+        0,
+    ),
+    (
+        SQUARE,
+        b"certificate 1\ncommand flow a d\nvalue 2\npath 1 2\npath 3 4\ndual cut\nset a\nend\n",
+        b"accepted\n",
+        0,
+    ),
+    // A part's numbers in another order.
+    (
+        K4,
+        b"certificate 1\ncommand trees\nvalue 2\npart 1 3 6\npart 2 4 5\ndual partition\nset a\nset b\nset c\nset d\nend\n",
+        b"accepted\n",
+        0,
+    ),
+    (
+        K4,
+        b"certificate 1\ncommand trees\nvalue 2\npart 6 1 3\npart 2 4 5\ndual partition\nset a\nset b\nset c\nset d\nend\n",
+        b"accepted\n",
+        0,
+    ),
+    // CR LF in the place of each LF, and one LF more.
+    (
+        SQUARE,
+        b"certificate 1\r\ncommand flow a d\r\nvalue 2\r\npath 3 4\r\npath 1 2\r\ndual cut\r\nset a\r\nend\r\n",
+        b"rejected malformed 1\n",
+        2,
+    ),
+    (
+        SQUARE,
+        b"certificate 1\ncommand flow a d\nvalue 2\npath 3 4\npath 1 2\ndual cut\nset a\nend\n\n",
+        b"rejected malformed 9\n",
+        2,
+    ),
+    // A path and a set twice.
+    (
+        SQUARE,
+        b"certificate 1\ncommand flow a d\nvalue 2\npath 3 4\npath 3 4\ndual cut\nset a\nend\n",
+        b"rejected infeasible\n",
+        2,
+    ),
+    (
+        K4,
+        b"certificate 1\ncommand trees\nvalue 2\npart 1 3 6\npart 2 4 5\ndual partition\nset a\nset a\nset b\nset c\nset d\nend\n",
+        b"rejected dual\n",
+        2,
+    ),
+    // The least number that is none, and the largest.
+    (
+        SQUARE,
+        b"certificate 1\ncommand flow a d\nvalue 18446744073709551616\npath 3 4\npath 1 2\ndual cut\nset a\nend\n",
+        b"rejected malformed 3\n",
+        2,
+    ),
+    (
+        SQUARE,
+        b"certificate 1\ncommand flow a d\nvalue 18446744073709551615\npath 3 4\npath 1 2\ndual cut\nset a\nend\n",
+        b"rejected gap\n",
+        2,
+    ),
+];
+
 fn are_checked(rt: &impl Abort, alloc: Global, rows: &[Row<'_>]) -> Result<(), Fail> {
     for (graph, rest, text, number) in rows {
         let (written, status) = answer(alloc, "check", &joined(alloc, graph, rest)?)?;
@@ -162,4 +230,44 @@ fn are_checked(rt: &impl Abort, alloc: Global, rows: &[Row<'_>]) -> Result<(), F
 #[test]
 fn certificates_are_accepted_or_rejected(rt: HostRuntime) -> Result<(), Fail> {
     are_checked(&rt, rt.alloc(), &CHECKS)
+}
+
+#[test]
+fn changed_certificates_have_their_answers(rt: HostRuntime) -> Result<(), Fail> {
+    are_checked(&rt, rt.alloc(), &CHANGED)
+}
+
+// What `check` says of each front of a graph text with its certificate behind it, and of the whole.
+fn is_cut_off(rt: &impl Abort, alloc: Global, graph: &[u8], whole: &[u8]) -> Result<(), Fail> {
+    let mut line: usize = 1;
+    for (count, byte) in whole.iter().enumerate() {
+        let (written, status) = answer(alloc, "check", &whole[..count])?;
+        // The last LF of the graph text may be missing.
+        if count.wrapping_add(1) < graph.len() {
+            same(rt, &status, &4, &count);
+        } else {
+            let text = format!(in alloc; "rejected malformed {line}\n")?;
+            let want = (text.as_bytes(), 2);
+            same(rt, &(written.as_slice(), status), &want, &count);
+        }
+        if count >= graph.len() && *byte == b'\n' {
+            line = line.wrapping_add(1);
+        }
+    }
+    let (written, status) = answer(alloc, "check", whole)?;
+    let want = (b"accepted\n".as_slice(), 0);
+    same(rt, &(written.as_slice(), status), &want, &"whole");
+    Ok(())
+}
+
+#[test]
+fn a_certificate_that_is_cut_off_goes_on_at_its_first_missing_line(
+    rt: HostRuntime,
+) -> Result<(), Fail> {
+    let alloc = rt.alloc();
+    for (words, graph) in [("flow a d", SQUARE), ("trees", K4), ("forests", K4)] {
+        let (certificate, _) = answer(alloc, words, graph)?;
+        is_cut_off(&rt, alloc, graph, &joined(alloc, graph, &certificate)?)?;
+    }
+    Ok(())
 }
