@@ -1,7 +1,5 @@
 //! The forests of the complete graph on four nodes with one edge twice.
 
-ghost use Rattle.std.specs.Prelude.{◌<◌};
-
 use crate::asserts::same;
 use crate::examples::graph_of;
 use graph_core::{Marks, NoMemory};
