@@ -7,8 +7,8 @@ The bugs of a crate stand in tools/plants/NAME.txt, with blank lines between: a 
 the lines 'file:', 'old:' and 'new:' of a must-fail edit. They are tried in a copy of the repository. The proof of a
 function sees of the others only their contracts, so that bugs in different functions are tried by one check; with
 --alone each is tried by itself, as a must-fail edit. A bug that no proof refuses, or that is refused only since a proof
-names what it took away, is tried by itself with the tests of its crate and with those of connect_tests. --only takes the
-bugs whose title has the words (a regular expression).
+names what it took away, is tried by itself with the tests of library_tests and of connect_tests. --only takes the bugs
+whose title has the words (a regular expression).
 """
 
 import os
@@ -21,7 +21,7 @@ from pathlib import Path
 
 ROOT = Path(__file__).resolve().parent.parent
 PLANTS = ROOT / "tools/plants"
-SUITES = ["connect_tests"]
+SUITES = ["library_tests", "connect_tests"]
 NAMES_ONLY = re.compile(r"has no `|has no field|is not in scope|was not admitted|\(nearest: ")
 
 
@@ -202,10 +202,8 @@ def judged_alone(said):
 def try_tests(room, plant):
     """The first suite of tests that fails with the bug, or None."""
     with Planted(room / "crates" / plant.crate, [plant]):
-        for suite in [plant.crate, *SUITES]:
+        for suite in SUITES:
             said, status = rt(room / "crates" / suite, ["try", "--test"], 1)
-            if "has no #[test] function" in said:
-                continue
             if status == 2 or "error[" in said:
                 plant.kind, plant.said = "unread", said[:300]
                 return None

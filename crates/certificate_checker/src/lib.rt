@@ -16,6 +16,3 @@ mod trees;
 pub use answer::check;
 pub use law::one_answer;
 pub use rejection::Rejection;
-
-#[cfg(test)]
-mod tests;

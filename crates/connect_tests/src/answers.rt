@@ -1,12 +1,8 @@
-use crate::run::{answer, begins, graph_text};
+use crate::examples::SQUARE;
+use crate::run::{answer, graph_text, same};
+use std::alloc::Global;
+use std::process::Abort;
 use std::test::Fail;
-
-const SQUARE: &[u8] =
-    b"graph undirected\nnode a\nnode b\nnode c\nnode d\nedge a b\nedge b d\nedge a c\nedge c d\nend\n";
-
-// A ring of twelve nodes and four chords, with comments, tabs and CR LF.
-pub const BACKBONE: &[u8] =
-    b"# backbone, ring and four chords\r\ngraph undirected\r\n\r\nnode s1\r\nnode s2\r\nnode s3\r\nnode s4\r\nnode s5\r\nnode s6\r\nnode s7\r\nnode s8\r\nnode s9\r\nnode s10\r\nnode s11\r\nnode s12\r\n# ring\r\nedge\ts1\ts2\r\nedge\ts2\ts3\r\nedge\ts3\ts4\r\nedge\ts4\ts5\r\nedge\ts5\ts6\r\nedge\ts6\ts7\r\nedge\ts7\ts8\r\nedge\ts8\ts9\r\nedge\ts9\ts10\r\nedge\ts10\ts11\r\nedge\ts11\ts12\r\nedge\ts12\ts1\r\n# chords\r\nedge\ts1\ts7\r\nedge\ts2\ts8\r\nedge\ts3\ts9\r\nedge\ts4\ts10\r\nend\r\n";
 
 // Words, input, the whole text and the exit number.
 const WHOLE: [(&str, &[u8], &[u8], u8); 35] = [
@@ -158,81 +154,57 @@ const WHOLE: [(&str, &[u8], &[u8], u8); 35] = [
     ),
 ];
 
-// Words, input, how the text begins and the exit number.
-const BEGUN: [(&str, &[u8], &[u8], u8); 6] = [
-    (
-        "flow s1 s4",
-        BACKBONE,
-        b"certificate 1\ncommand flow s1 s4\nvalue 3\npath ",
-        0,
-    ),
-    (
-        "cuttree",
-        BACKBONE,
-        b"certificate 1\ncommand cuttree\ntree ",
-        0,
-    ),
-    (
-        "flow a d",
-        SQUARE,
-        b"certificate 1\ncommand flow a d\nvalue 2\npath ",
-        0,
-    ),
-    (
-        "flow a b",
-        b"graph undirected\nnode a\nnode b\nedge a b\nedge a b\nedge a b\nend\n",
-        b"certificate 1\ncommand flow a b\nvalue 3\npath ",
-        0,
-    ),
-    (
-        "flow a c",
-        b"graph directed\nnode a\nnode b\nnode c\narc a b\narc b a\narc b c\narc a c\narc c b\nend\n",
-        b"certificate 1\ncommand flow a c\nvalue 2\npath ",
-        0,
-    ),
-    (
-        "flow c a",
-        b"graph directed\nnode a\nnode b\nnode c\narc a b\narc b a\narc b c\narc a c\narc c b\nend\n",
-        b"certificate 1\ncommand flow c a\nvalue 1\npath 5 2\ndual cut\n",
-        0,
-    ),
-];
+fn are_answered(
+    rt: &impl Abort,
+    alloc: Global,
+    rows: &[(&str, &[u8], &[u8], u8)],
+) -> Result<(), Fail> {
+    for (words, input, text, number) in rows {
+        let (written, status) = answer(alloc, words, input)?;
+        same(rt, &(written.as_slice(), status), &(*text, *number), words);
+    }
+    Ok(())
+}
 
 #[test]
 fn words_and_graphs_have_their_answers(rt: HostRuntime) -> Result<(), Fail> {
-    for (words, input, text, number) in WHOLE {
-        let (written, status) = answer(rt.alloc(), words, input)?;
-        assert_eq!(rt; written.as_slice(), text, "{words}");
-        assert_eq!(rt; status, number, "{words}");
-    }
-    for (words, input, start, number) in BEGUN {
-        let (written, status) = answer(rt.alloc(), words, input)?;
-        assert!(rt; begins(&written, start), "{words}");
-        assert_eq!(rt; status, number, "{words}");
+    are_answered(&rt, rt.alloc(), &WHOLE)
+}
+
+// Words, nodes, parallel edges, how the text begins and the exit number.
+const LIMITS: [(&str, usize, usize, &[u8], u8); 3] = [
+    (
+        "flow n1 n2",
+        128,
+        2048,
+        b"certificate 1\ncommand flow n1 n2\nvalue 2048\npath ",
+        0,
+    ),
+    ("flow n1 n2", 128, 2049, b"large lines\n", 5),
+    ("forests", 129, 0, b"large nodes\n", 5),
+];
+
+fn are_begun(
+    rt: &impl Abort,
+    alloc: Global,
+    rows: &[(&str, usize, usize, &[u8], u8)],
+) -> Result<(), Fail> {
+    for (words, nodes, edges, start, number) in rows {
+        let text = graph_text(alloc, *nodes, *edges)?;
+        let (written, status) = answer(alloc, words, &text)?;
+        let begins = written.starts_with(start);
+        same(rt, &(begins, status), &(true, *number), words);
     }
     Ok(())
 }
 
 #[test]
 fn the_limits_of_a_graph_text(rt: HostRuntime) -> Result<(), Fail> {
-    let alloc = rt.alloc();
-    let largest = graph_text(alloc, 128, 2048)?;
-    let (written, status) = answer(alloc, "flow n1 n2", &largest)?;
-    assert!(rt;
-        begins(
-            &written,
-            b"certificate 1\ncommand flow n1 n2\nvalue 2048\npath "
-        )
-    );
-    assert_eq!(rt; status, 0);
-    let lines = answer(alloc, "flow n1 n2", &graph_text(alloc, 128, 2049)?)?;
-    assert_eq!(rt; lines.0.as_slice(), b"large lines\n".as_slice());
-    assert_eq!(rt; lines.1, 5);
-    let nodes = answer(alloc, "forests", &graph_text(alloc, 129, 0)?)?;
-    assert_eq!(rt; nodes.0.as_slice(), b"large nodes\n".as_slice());
-    assert_eq!(rt; nodes.1, 5);
-    let bytes = answer(alloc, "forests", &vec![in alloc; b'#'; 1_048_577]?)?;
-    assert_eq!(rt; bytes.0.as_slice(), b"large bytes\n".as_slice());
-    assert_eq!(rt; bytes.1, 5);
-    Ok(())
+    are_begun(&rt, rt.alloc(), &LIMITS)?;
+    let bytes = vec![in rt.alloc(); b'#'; 1_048_577]?;
+    are_answered(
+        &rt,
+        rt.alloc(),
+        &[("forests", bytes.as_slice(), b"large bytes\n", 5)],
+    )
 }

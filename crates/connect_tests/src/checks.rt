@@ -1,18 +1,13 @@
-use crate::answers::BACKBONE;
-use crate::run::answer;
-use std::alloc::{AllocError, Global};
+use crate::examples::{ARCS, K4, PATH, SQUARE};
+use crate::run::{answer, joined, same};
+use std::alloc::Global;
+use std::process::Abort;
 use std::test::Fail;
 
-const SQUARE: &[u8] =
-    b"graph undirected\nnode a\nnode b\nnode c\nnode d\nedge a b\nedge b d\nedge a c\nedge c d\nend\n";
-
-const ARCS: &[u8] =
-    b"graph directed\nnode a\nnode b\nnode c\narc a b\narc b a\narc b c\narc a c\narc c b\nend\n";
-
-const PATH: &[u8] = b"graph undirected\nnode a\nnode b\nnode c\nedge a b\nedge b c\nend\n";
-
 // A graph, what follows it, the answer and the exit number.
-const CHECKS: [(&[u8], &[u8], &[u8], u8); 15] = [
+type Row<'a> = (&'a [u8], &'a [u8], &'a [u8], u8);
+
+const CHECKS: [Row<'static>; 23] = [
     (
         SQUARE,
         b"certificate 1\ncommand flow a d\nvalue 2\npath 1 2\npath 3 4\ndual cut\nset a\nend\n",
@@ -104,59 +99,175 @@ const CHECKS: [(&[u8], &[u8], &[u8], u8); 15] = [
         b"rejected malformed 2\n",
         2,
     ),
-];
-
-// Pairs of nodes, and what `check` says of them as a cut tree of the path.
-const TREES: [(&[u8], &[u8]); 8] = [
-    (b"tree a b 1\ntree b c 1\n", b"accepted\n"),
-    (b"tree c b 1\ntree a b 1\n", b"accepted\n"),
-    (b"tree a b 1\ntree b c 2\n", b"rejected dual\n"),
-    (b"tree a b 0\ntree b c 1\n", b"rejected dual\n"),
+    // Cut trees of the path.
+    (
+        PATH,
+        b"certificate 1\ncommand cuttree\ntree a b 1\ntree b c 1\nend\n",
+        b"accepted\n",
+        0,
+    ),
+    (
+        PATH,
+        b"certificate 1\ncommand cuttree\ntree c b 1\ntree a b 1\nend\n",
+        b"accepted\n",
+        0,
+    ),
+    (
+        PATH,
+        b"certificate 1\ncommand cuttree\ntree a b 1\ntree b c 2\nend\n",
+        b"rejected dual\n",
+        2,
+    ),
+    (
+        PATH,
+        b"certificate 1\ncommand cuttree\ntree a b 0\ntree b c 1\nend\n",
+        b"rejected dual\n",
+        2,
+    ),
     // The side of a and b holds c, too, and two edges leave it.
-    (b"tree a b 1\ntree a c 1\n", b"rejected dual\n"),
-    (b"tree a b 1\n", b"rejected infeasible\n"),
-    (b"tree a b 1\ntree b a 1\n", b"rejected infeasible\n"),
-    (b"tree a b 1\ntree c c 1\n", b"rejected infeasible\n"),
+    (
+        PATH,
+        b"certificate 1\ncommand cuttree\ntree a b 1\ntree a c 1\nend\n",
+        b"rejected dual\n",
+        2,
+    ),
+    (
+        PATH,
+        b"certificate 1\ncommand cuttree\ntree a b 1\nend\n",
+        b"rejected infeasible\n",
+        2,
+    ),
+    (
+        PATH,
+        b"certificate 1\ncommand cuttree\ntree a b 1\ntree b a 1\nend\n",
+        b"rejected infeasible\n",
+        2,
+    ),
+    (
+        PATH,
+        b"certificate 1\ncommand cuttree\ntree a b 1\ntree c c 1\nend\n",
+        b"rejected infeasible\n",
+        2,
+    ),
 ];
 
-// A command and its graph.
-const SOLVED: [(&str, &[u8]); 8] = [
-    ("cuttree", SQUARE),
-    ("cuttree", PATH),
-    ("cuttree", BACKBONE),
-    ("flow a d", SQUARE),
-    ("flow b c", SQUARE),
-    ("flow a c", ARCS),
-    ("flow c a", ARCS),
-    ("flow a c", PATH),
+const CHANGED: [Row<'static>; 10] = [
+    // As it was answered, and with the paths exchanged.
+    (
+        SQUARE,
+        b"certificate 1\ncommand flow a d\nvalue 2\npath 3 4\npath 1 2\ndual cut\nset a\nend\n",
+        b"accepted\n",
+        0,
+    ),
+    (
+        SQUARE,
+        b"certificate 1\ncommand flow a d\nvalue 2\npath 1 2\npath 3 4\ndual cut\nset a\nend\n",
+        b"accepted\n",
+        0,
+    ),
+    // A part's numbers in another order.
+    (
+        K4,
+        b"certificate 1\ncommand trees\nvalue 2\npart 1 3 6\npart 2 4 5\ndual partition\nset a\nset b\nset c\nset d\nend\n",
+        b"accepted\n",
+        0,
+    ),
+    (
+        K4,
+        b"certificate 1\ncommand trees\nvalue 2\npart 6 1 3\npart 2 4 5\ndual partition\nset a\nset b\nset c\nset d\nend\n",
+        b"accepted\n",
+        0,
+    ),
+    // CR LF in the place of each LF, and one LF more.
+    (
+        SQUARE,
+        b"certificate 1\r\ncommand flow a d\r\nvalue 2\r\npath 3 4\r\npath 1 2\r\ndual cut\r\nset a\r\nend\r\n",
+        b"rejected malformed 1\n",
+        2,
+    ),
+    (
+        SQUARE,
+        b"certificate 1\ncommand flow a d\nvalue 2\npath 3 4\npath 1 2\ndual cut\nset a\nend\n\n",
+        b"rejected malformed 9\n",
+        2,
+    ),
+    // A path and a set twice.
+    (
+        SQUARE,
+        b"certificate 1\ncommand flow a d\nvalue 2\npath 3 4\npath 3 4\ndual cut\nset a\nend\n",
+        b"rejected infeasible\n",
+        2,
+    ),
+    (
+        K4,
+        b"certificate 1\ncommand trees\nvalue 2\npart 1 3 6\npart 2 4 5\ndual partition\nset a\nset a\nset b\nset c\nset d\nend\n",
+        b"rejected dual\n",
+        2,
+    ),
+    // The least number that is none, and the largest.
+    (
+        SQUARE,
+        b"certificate 1\ncommand flow a d\nvalue 18446744073709551616\npath 3 4\npath 1 2\ndual cut\nset a\nend\n",
+        b"rejected malformed 3\n",
+        2,
+    ),
+    (
+        SQUARE,
+        b"certificate 1\ncommand flow a d\nvalue 18446744073709551615\npath 3 4\npath 1 2\ndual cut\nset a\nend\n",
+        b"rejected gap\n",
+        2,
+    ),
 ];
 
-pub fn joined(alloc: Global, graph: &[u8], rest: &[u8]) -> Result<Vec<u8>, AllocError> {
-    let mut input = Vec::from_slice(alloc, graph)?;
-    input.extend_from_slice(rest)?;
-    Ok(input)
+fn are_checked(rt: &impl Abort, alloc: Global, rows: &[Row<'_>]) -> Result<(), Fail> {
+    for (graph, rest, text, number) in rows {
+        let (written, status) = answer(alloc, "check", &joined(alloc, graph, rest)?)?;
+        same(rt, &(written.as_slice(), status), &(*text, *number), rest);
+    }
+    Ok(())
 }
 
 #[test]
 fn certificates_are_accepted_or_rejected(rt: HostRuntime) -> Result<(), Fail> {
+    are_checked(&rt, rt.alloc(), &CHECKS)
+}
+
+#[test]
+fn changed_certificates_have_their_answers(rt: HostRuntime) -> Result<(), Fail> {
+    are_checked(&rt, rt.alloc(), &CHANGED)
+}
+
+// What `check` says of each front of a graph text with its certificate behind it, and of the whole.
+fn is_cut_off(rt: &impl Abort, alloc: Global, graph: &[u8], whole: &[u8]) -> Result<(), Fail> {
+    let mut line: usize = 1;
+    for (count, byte) in whole.iter().enumerate() {
+        let (written, status) = answer(alloc, "check", &whole[..count])?;
+        // The last LF of the graph text may be missing.
+        if count.wrapping_add(1) < graph.len() {
+            same(rt, &status, &4, &count);
+        } else {
+            let text = format!(in alloc; "rejected malformed {line}\n")?;
+            let want = (text.as_bytes(), 2);
+            same(rt, &(written.as_slice(), status), &want, &count);
+        }
+        if count >= graph.len() && *byte == b'\n' {
+            line = line.wrapping_add(1);
+        }
+    }
+    let (written, status) = answer(alloc, "check", whole)?;
+    let want = (b"accepted\n".as_slice(), 0);
+    same(rt, &(written.as_slice(), status), &want, &"whole");
+    Ok(())
+}
+
+#[test]
+fn a_certificate_that_is_cut_off_goes_on_at_its_first_missing_line(
+    rt: HostRuntime,
+) -> Result<(), Fail> {
     let alloc = rt.alloc();
-    for (graph, rest, text, number) in CHECKS {
-        let (written, status) = answer(alloc, "check", &joined(alloc, graph, rest)?)?;
-        assert_eq!(rt; written.as_slice(), text);
-        assert_eq!(rt; status, number);
-    }
-    for (pairs, text) in TREES {
-        let mut rest = Vec::from_slice(alloc, b"certificate 1\ncommand cuttree\n")?;
-        rest.extend_from_slice(pairs)?;
-        rest.extend_from_slice(b"end\n")?;
-        let (written, _) = answer(alloc, "check", &joined(alloc, PATH, &rest)?)?;
-        assert_eq!(rt; written.as_slice(), text);
-    }
-    for (words, graph) in SOLVED {
+    for (words, graph) in [("flow a d", SQUARE), ("trees", K4), ("forests", K4)] {
         let (certificate, _) = answer(alloc, words, graph)?;
-        let (written, status) = answer(alloc, "check", &joined(alloc, graph, &certificate)?)?;
-        assert_eq!(rt; written.as_slice(), b"accepted\n".as_slice(), "{words}");
-        assert_eq!(rt; status, 0);
+        is_cut_off(&rt, alloc, graph, &joined(alloc, graph, &certificate)?)?;
     }
     Ok(())
 }

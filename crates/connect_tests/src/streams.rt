@@ -1,53 +1,46 @@
-use crate::run::{begins, words_of};
-use cn_edge::{MemSink, MemSource, QuietSink};
-use connect_run::{Status, connect_run};
-use std::alloc::{AllocError, Global};
+use crate::run::{Sizes, run, same};
+use connect_run::Status;
+use std::alloc::Global;
+use std::process::Abort;
 use std::test::Fail;
 
 // No edges join the two nodes.
 const INPUT: &[u8] = b"graph undirected\nnode a\nnode b\nend\n";
 
-#[test]
-fn faults_of_source_and_sink_are_told(rt: HostRuntime) -> Result<(), Fail> {
-    let alloc = rt.alloc();
-    let words = words_of(alloc, "flow a b")?;
-    let mut source = MemSource::new(INPUT, 16, &[false, true]);
-    let mut sink = MemSink::new(vec![in alloc; 0u8; 64]?, 8, &[]);
-    assert_eq!(rt;
-        connect_run(alloc, &words, &mut source, &mut sink),
-        Status::ReadFault
-    );
-    assert!(rt; sink.bytes().is_empty());
+// Words, which reads and which writes fail, the sink's room, the status and what is written.
+type Fault<'a> = (&'a str, &'a [bool], &'a [bool], usize, Status, &'a [u8]);
 
-    let mut source = MemSource::new(INPUT, 16, &[]);
-    let mut sink = MemSink::new(vec![in alloc; 0u8; 64]?, 8, &[false, true]);
-    assert_eq!(rt;
-        connect_run(alloc, &words, &mut source, &mut sink),
-        Status::WriteFault
-    );
-    assert_eq!(rt; sink.bytes(), b"certific".as_slice());
+const FAULTS: [Fault<'static>; 4] = [
+    ("flow a b", &[false, true], &[], 64, Status::ReadFault, b""),
+    (
+        "flow a b",
+        &[],
+        &[false, true],
+        64,
+        Status::WriteFault,
+        b"certific",
+    ),
+    ("flow a b", &[], &[], 10, Status::WriteFault, b"certificat"),
+    // A source that would fail isn't asked.
+    ("flow a", &[true], &[], 64, Status::BadWords, b"words 3\n"),
+];
 
-    let mut source = MemSource::new(INPUT, 16, &[]);
-    let mut sink = MemSink::new(vec![in alloc; 0u8; 10]?, 8, &[]);
-    assert_eq!(rt;
-        connect_run(alloc, &words, &mut source, &mut sink),
-        Status::WriteFault
-    );
-    assert_eq!(rt; sink.bytes(), b"certificat".as_slice());
+fn are_told(rt: &impl Abort, alloc: Global, rows: &[Fault<'_>]) -> Result<(), Fail> {
+    for (words, reads, writes, room, told, text) in rows {
+        let sizes = Sizes {
+            read: 16,
+            write: 8,
+            room: *room,
+        };
+        let (written, status) = run(alloc, words, INPUT, sizes, reads, writes)?;
+        same(rt, &(status, written.as_slice()), &(*told, *text), words);
+    }
     Ok(())
 }
 
-// A source that would fail isn't asked.
 #[test]
-fn bad_words_leave_the_source_unread(rt: HostRuntime) -> Result<(), Fail> {
-    let alloc = rt.alloc();
-    let words = words_of(alloc, "flow a")?;
-    let mut source = MemSource::new(INPUT, 16, &[true]);
-    assert_eq!(rt;
-        connect_run(alloc, &words, &mut source, &mut QuietSink::new()),
-        Status::BadWords
-    );
-    Ok(())
+fn faults_of_source_and_sink_are_told(rt: HostRuntime) -> Result<(), Fail> {
+    are_told(&rt, rt.alloc(), &FAULTS)
 }
 
 // The last call of the plan fails.
@@ -82,48 +75,60 @@ const RUNS: [(&str, &[u8]); 10] = [
     ),
 ];
 
-// What is written, 24 bytes a call, and the status of a run over a source of 32 bytes a call.
-fn run(
-    alloc: Global,
-    words: &str,
-    input: &[u8],
-    reads: &[bool],
-    writes: &[bool],
-) -> Result<(Vec<u8>, Status), AllocError> {
-    let words = words_of(alloc, words)?;
-    let mut source = MemSource::new(input, 32, reads);
-    let mut sink = MemSink::new(vec![in alloc; 0u8; 120]?, 24, writes);
-    let status = connect_run(alloc, &words, &mut source, &mut sink);
-    Ok((Vec::from_slice(alloc, sink.bytes())?, status))
-}
+const SMALL: Sizes = Sizes {
+    read: 32,
+    write: 24,
+    room: 120,
+};
 
 // Each call that is made fails in its turn; the plan's later ends are past the last call.
-#[test]
-fn a_fault_of_each_read_and_each_write_is_told(rt: HostRuntime) -> Result<(), Fail> {
-    let alloc = rt.alloc();
-    for (words, input) in RUNS {
-        let (text, status) = run(alloc, words, input, &[], &[])?;
-        for count in 0..5 {
-            let plan = &PLAN[4 - count..];
-            // The call behind the input's last byte sees its end.
-            let told = if 32 * count < input.len().saturating_add(32) {
-                Status::ReadFault
-            } else {
-                status
-            };
-            let (written, ended) = run(alloc, words, input, plan, &[])?;
-            assert_eq!(rt; ended, told, "{words}, read {count}");
-            assert_eq!(rt; written.is_empty(), told == Status::ReadFault);
-            let told = if 24 * count < text.len() {
-                Status::WriteFault
-            } else {
-                status
-            };
-            let (written, ended) = run(alloc, words, input, &[], plan)?;
-            assert_eq!(rt; ended, told, "{words}, write {count}");
-            assert_eq!(rt; written.len(), text.len().min(24 * count));
-            assert!(rt; begins(&text, &written));
-        }
+fn each_is_told(rt: &impl Abort, alloc: Global, words: &str, input: &[u8]) -> Result<(), Fail> {
+    let (text, status) = run(alloc, words, input, SMALL, &[], &[])?;
+    for count in 0..5 {
+        let plan = &PLAN[4 - count..];
+        // The call behind the input's last byte sees its end.
+        let (told, size) = if 32 * count < input.len().saturating_add(32) {
+            (Status::ReadFault, 0)
+        } else {
+            (status, text.len())
+        };
+        let (written, ended) = run(alloc, words, input, SMALL, plan, &[])?;
+        same(
+            rt,
+            &(ended, written.len()),
+            &(told, size),
+            &(words, "read", count),
+        );
+        let (told, size) = if 24 * count < text.len() {
+            (Status::WriteFault, 24 * count)
+        } else {
+            (status, text.len())
+        };
+        let (written, ended) = run(alloc, words, input, SMALL, &[], plan)?;
+        same(
+            rt,
+            &(ended, written.len()),
+            &(told, size),
+            &(words, "write", count),
+        );
+        same(
+            rt,
+            &text.starts_with(&written),
+            &true,
+            &(words, "write", count),
+        );
     }
     Ok(())
+}
+
+fn all_are_told(rt: &impl Abort, alloc: Global, rows: &[(&str, &[u8])]) -> Result<(), Fail> {
+    for (words, input) in rows {
+        each_is_told(rt, alloc, words, input)?;
+    }
+    Ok(())
+}
+
+#[test]
+fn a_fault_of_each_read_and_each_write_is_told(rt: HostRuntime) -> Result<(), Fail> {
+    all_are_told(&rt, rt.alloc(), &RUNS)
 }

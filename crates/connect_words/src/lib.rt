@@ -12,6 +12,3 @@ pub use asks::ask_of;
 pub use command::{Command, TrialKind, WordFault};
 pub use law::words_have_one_meaning;
 pub use words::read_words;
-
-#[cfg(test)]
-mod tests;

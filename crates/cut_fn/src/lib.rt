@@ -3,8 +3,6 @@
 
 mod function;
 mod graph_cuts;
-#[cfg(test)]
-mod tests;
 
 pub use function::{CutFn, Symmetric};
 pub use graph_cuts::{EdgeCut, EnterCut, LeaveCut};

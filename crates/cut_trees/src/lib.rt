@@ -6,6 +6,3 @@ mod node_cuts;
 mod tree;
 
 pub use tree::cut_tree;
-
-#[cfg(test)]
-mod tests;

@@ -8,6 +8,3 @@ mod round;
 
 pub use arborescences::pack_arborescences;
 pub use packing::pack_rooted;
-
-#[cfg(test)]
-mod tests;

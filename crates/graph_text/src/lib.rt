@@ -8,8 +8,6 @@ mod law;
 mod line;
 mod read;
 mod refusal;
-#[cfg(test)]
-mod tests;
 mod words;
 mod write;
 

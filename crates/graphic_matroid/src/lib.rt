@@ -9,6 +9,3 @@ mod graphic;
 pub use component::components;
 pub use forests::{Forests, most_forests, no_more_lines};
 pub use graphic::{Graphic, GrowingForest};
-
-#[cfg(test)]
-mod tests;

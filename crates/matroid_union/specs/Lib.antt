@@ -4,4 +4,3 @@ pub mod Growing
 pub mod Parts
 pub mod Search
 pub mod Union
-pub mod Uniform

@@ -12,6 +12,3 @@ mod search;
 
 pub use matroid::Matroid;
 pub use parts::{FreeParts, union};
-
-#[cfg(test)]
-mod tests;
