@@ -1,6 +1,5 @@
 ghost use Rattle.std.specs.Prelude.{◌≡◌, ◌++◌, map, IfOk, OnOk};
 ghost use Rattle.std.specs.List.{flat_map};
-ghost use Rattle.graph_core.specs.Graph.{IsWithinSize};
 ghost use Rattle.graph_text.specs.Text.{ends_in};
 ghost use Rattle.graph_text.specs.PlainText.{header_line, node_line, keyword, line_end, ends_line, plain_text};
 
@@ -9,7 +8,6 @@ use std::alloc::Global;
 
 /// The plain text of the graph.
 pub fn write_graph(alloc: Global, graph: &Graph) -> Result<Vec<u8>, NoMemory>
-    requires { IsWithinSize graph.now }
     ensures { IfOk result (λ text. text.items ≡ plain_text graph.now) }
 {
     let mut text = Vec::new(alloc);
