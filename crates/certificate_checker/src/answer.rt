@@ -1,5 +1,4 @@
 ghost use Rattle.std.specs.Prelude.{◌≡◌, ◌≤◌, true, length, OnOk, IfErr};
-ghost use Rattle.graph_core.specs.Graph.{IsWithinSize};
 ghost use Rattle.problem_defs.specs.Meets.{HasObject, HasDual, HasValue};
 ghost use Rattle.problem_defs.specs.Ask.{misfit_of};
 ghost use Rattle.problem_defs.specs.Shaped.{IsShaped, Belongs, AreRows, DualIsInRange};
@@ -99,7 +98,6 @@ fn judge(alloc: Global, graph: &Graph, cert: &Cert) -> Result<(), Rejection>
 
 /// Whether the bytes are the text of a certificate that meets the graph, with nothing after it.
 pub fn check(alloc: Global, graph: &Graph, bytes: &[u8]) -> Result<(), Rejection>
-    requires { IsWithinSize graph.now }
     ensures accepted { OnOk result (IsAccepted graph.now bytes.now) }
     ensures rejected { IfErr result (IsReason graph.now bytes.now) }
 {
