@@ -1,6 +1,6 @@
 -- All branchings begin at one root.
-use Rattle.std.specs.Prelude.{ℕ, zero, suc, ◌≡◌, ◌<◌, ◌≤◌, ◌==◌, Bool, List, length, replicate, slice_set, slice_index, slice_index_or, All, refl}
-use Rattle.std.proofs.Common.{◌∙◌, inl, inr, arith}
+use Rattle.std.specs.Prelude.{ℕ, zero, suc, ◌≡◌, ◌^◌, ◌<◌, ◌≤◌, ◌==◌, Bool, List, length, replicate, slice_set, slice_index, slice_index_or, All, refl}
+use Rattle.std.proofs.Common.{◌∙◌, inl, inr, arith, lit<}
 use Rattle.std.proofs.lemmas.Bool.{cases_Bool}
 use Rattle.std.proofs.lemmas.List.{length-set, length-replicate, get_or-set_same, get_or-set_other}
 use Rattle.std.proofs.lemmas.List.Elements.{All-set, All-replicate}
@@ -30,7 +30,6 @@ can_be_packed {n} {k} {r} {ls} {X} below least is =
     let zeros : length (replicate n 0) ≡ n = length-replicate n 0 in
     record {
       long = length-set (replicate n 0) r k ∙ zeros;
-      few = All-set (λ c. c ≤ k) (replicate n 0) r k (omega arith) (All-replicate (λ c. c ≤ k) n 0 (omega arith));
       entered = λ Y y. elim (cases_Bool (has Y r)) [
         | inl holds ↦
             let at : slice_index (root_alone n r k) r ≡ k = get_or-set_same (replicate n 0) r k 0 (omega (arith, zeros)) in
@@ -38,6 +37,10 @@ can_be_packed {n} {k} {r} {ls} {X} below least is =
         | inr misses ↦ omega (arith, least.least Y y misses, is)
       ];
     }
+
+-- each number of branchings fits 32 bits
+pub root_small : (n r k : ℕ) → k < 2 ^ 32 → All (λ c. c < 2 ^ 32) (root_alone n r k)
+root_small n r k small = All-set (λ c. c < 2 ^ 32) (replicate n 0) r k small (All-replicate (λ c. c < 2 ^ 32) n 0 (lit< tt))
 
 pub all_spanning : {n k r : ℕ} {ls : List Line} {rows : List (List ℕ)} → r < n → All (Fits n) ls → ArePacked n k ls (root_alone n r k) rows → All (IsSpanningArborescence n ls r) rows
 all_spanning {n} {k} {r} {ls} {rows} below fits are j d l =

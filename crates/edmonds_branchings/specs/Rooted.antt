@@ -14,7 +14,6 @@ beginning_at v ls rows = count_by (λ row. in_degree v (picked ls row) == 0) row
 -- Edmonds' condition: each nonempty X is entered by at least as many arcs as branchings don't begin in it
 pub record CanBePacked (n k : ℕ) (ls : List Line) (roots : List ℕ) : Type 0 where
   pub long : length roots ≡ n
-  pub few : All (λ count. count ≤ k) roots
   pub entered : (X : List Bool) → IsNonempty n X → k ≤ entering X ls + sum_over X (slice_index roots)
 
 -- k branchings, no arc in two, of which at most roots(v) begin at each node v

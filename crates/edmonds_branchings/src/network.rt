@@ -1,4 +1,4 @@
-ghost use Rattle.std.specs.Prelude.{◌≡◌, ◌<◌, ◌≤◌, ◌+◌, ◌++◌, length, map, true, false, All, IfOk, OnOk};
+ghost use Rattle.std.specs.Prelude.{◌≡◌, ◌<◌, ◌≤◌, ◌+◌, ◌^◌, ◌++◌, length, map, true, false, All, IfOk, OnOk};
 ghost use Rattle.graph_core.specs.Graph.{IsWithinSize};
 ghost use Rattle.edmonds_branchings.specs.Network.{turned, root_arcs, network_of, AreEnds};
 ghost use Rattle.edmonds_branchings.specs.Round.{IsFree, IsBlocked};
@@ -25,7 +25,7 @@ pub fn turned_lines(alloc: Global, lines: &[Line]) -> Result<Vec<Cap>, NoMemory>
 /// Puts an arc from each node to node `n` behind the arcs, to be taken as often as a branching may begin at the node.
 fn push_roots(arcs: &mut Vec<Cap>, n: u32, roots: &[u64]) -> Result<(), NoMemory>
     requires few { length roots.now ≤ 8192 }
-    requires small { All (λ c. c ≤ 8192) roots.now }
+    requires small { All (λ c. c < 2 ^ 32) roots.now }
     ensures { OnOk result (arcs.new.items ≡ arcs.old.items ++ root_arcs n 0 roots.now) }
 {
     for (v, count) in roots.iter().enumerate() {
@@ -42,7 +42,7 @@ fn push_roots(arcs: &mut Vec<Cap>, n: u32, roots: &[u64]) -> Result<(), NoMemory
 /// is the number of arcs that enter the side in the digraph, and of branchings that may begin in it.
 pub fn network(alloc: Global, graph: &Graph, roots: &Counts) -> Result<Vec<Cap>, NoMemory>
     requires few { length roots.now ≤ 8192 }
-    requires small { All (λ c. c ≤ 8192) roots.now }
+    requires small { All (λ c. c < 2 ^ 32) roots.now }
     ensures { IfOk result (λ arcs. arcs.items ≡ network_of (length graph.now.names) graph.now.lines roots.now) }
 {
     graph.known();

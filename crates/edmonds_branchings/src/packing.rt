@@ -1,4 +1,4 @@
-ghost use Rattle.std.specs.Prelude.{◌≡◌, ◌≤◌, length, IfOk};
+ghost use Rattle.std.specs.Prelude.{◌≡◌, ◌<◌, ◌^◌, length, All, IfOk};
 ghost use Rattle.graph_core.specs.Graph.{IsWithinSize};
 ghost use Rattle.graph_core.specs.declared.graph.Kind.TheVariants.{Directed};
 ghost use Rattle.edmonds_branchings.specs.Rooted.{CanBePacked, ArePacked};
@@ -18,7 +18,7 @@ pub fn pack_rooted(
 ) -> Result<NumberRows, NoMemory>
     requires kind { graph.now.kind ≡ Directed }
     requires size { IsWithinSize graph.now }
-    requires few { k ≤ 8192 }
+    requires small { All (λ count. count < 2 ^ 32) roots.now }
     requires ready { CanBePacked (length graph.now.names) k graph.now.lines roots.now }
     ensures { IfOk result (ArePacked (length graph.now.names) k graph.now.lines roots.now) }
 {

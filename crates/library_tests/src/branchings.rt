@@ -1,6 +1,6 @@
 //! Packings on three nodes, looked over by a plain program.
 
-ghost use Rattle.std.specs.Prelude.{◌≡◌, ◌≤◌, ◌+◌, [], ◌∷◌, true, All, IfOk, IsTrue, length, slice_index};
+ghost use Rattle.std.specs.Prelude.{◌≡◌, ◌<◌, ◌≤◌, ◌+◌, ◌^◌, [], ◌∷◌, true, All, IfOk, IsTrue, length, slice_index};
 ghost use Rattle.graph_core.specs.Graph.{IsWithinSize};
 ghost use Rattle.graph_core.specs.Lines.{entering};
 ghost use Rattle.graph_core.specs.Side.{sum_over};
@@ -98,7 +98,8 @@ fn can_be_packed(alloc: Global, graph: &Graph, roots: &Counts, k: u32) -> bool
 
 /// Whether no count is larger than k.
 fn are_few(roots: &Counts, k: u32) -> bool
-    ensures { IsTrue result → All (λ count. count ≤ k) roots.now }
+    ensures few { IsTrue result → All (λ count. count ≤ k) roots.now }
+    ensures small { IsTrue result → All (λ count. count < 2 ^ 32) roots.now }
 {
     roots.as_slice().iter().all(|count| *count <= k as u64)
 }
@@ -114,7 +115,7 @@ fn pack_three(
     requires { IsWithinSize graph.now }
 {
     let roots = Counts::from_vec(Vec::from_array(alloc, counts)?);
-    assert!(rt; k <= 8192 && roots.len() == 3 && graph.node_count() == 3);
+    assert!(rt; roots.len() == 3 && graph.node_count() == 3);
     assert!(rt; graph.kind() == Kind::Directed);
     assert!(rt; are_few(&roots, k));
     assert!(rt; can_be_packed(alloc, graph, &roots, k));

@@ -1,11 +1,14 @@
-use Rattle.std.proofs.Common.{length, sym, ◌∙◌}
+use Rattle.std.proofs.Common.{length, sym, ◌∙◌, arith}
 use Rattle.edmonds_branchings.specs.Rooted.{ArePacked}
-use Rattle.edmonds_branchings.proofs.OneRoot.{root_alone, can_be_packed, all_spanning}
+use Rattle.edmonds_branchings.proofs.OneRoot.{root_alone, can_be_packed, root_small, all_spanning}
 use Rattle.edmonds_branchings.proofs.arborescences.pack_arborescences.Goals as goal
 
 pub pack_rooted-requires-clause-ready : goal.pack_rooted-requires-clause-ready
 pack_rooted-requires-clause-ready c =
     rw (c.in_ok-roots.ensures, c.node_count.ensures) (can_be_packed c.requires.suits.root c.in_ok-dual.ensures (sym c.entering-k.ensures.count))
+
+pub pack_rooted-requires-clause-small : goal.pack_rooted-requires-clause-small
+pack_rooted-requires-clause-small c = rw (c.in_ok-roots.ensures, c.node_count.ensures) (root_small (length c.args.graph.now.names) c.args.root c.entering-k.result (let most = c.entering-k.ensures.within in omega arith))
 
 pub returns-clause-certified : goal.returns-clause-certified
 returns-clause-certified c =

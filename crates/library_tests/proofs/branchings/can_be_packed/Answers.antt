@@ -34,7 +34,6 @@ returns c = λ e.
     let (h1, h2) = and_parts _ _ e2 in
     record {
       long = c.requires.long;
-      few = c.requires.few;
       entered = all_sides P
           (c.are_entered-a.ensures h1)
           (c.are_entered-b.ensures h2)
