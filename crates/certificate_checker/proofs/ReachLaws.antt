@@ -1,6 +1,6 @@
 -- How a side grows by pairs that cross it.
 use Rattle.std.proofs.Common.{◌≡◌, ℕ, zero, suc, ◌+◌, ◌<◌, ◌≤◌, Bool, true, false, ◌&&◌, List, [], ◌∷◌, ◌++◌, length, refl, sym, ap, ◌∙◌, take, subst, arith}
-use Rattle.std.specs.Prelude.{slice_set, ◌||◌, remove}
+use Rattle.std.specs.Prelude.{◌||◌, remove}
 use Rattle.std.specs.Bool.{OnTrue, OnFalse}
 use Rattle.std.proofs.lemmas.List.Sums.{sum_by-cons, sum_by-append}
 use Rattle.std.proofs.lemmas.List.Elements.{All-more, All-append}

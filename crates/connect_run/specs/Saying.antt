@@ -1,10 +1,16 @@
 -- What the parts of a run say.
 use Rattle.std.specs.Prelude.{ℕ, ◌≡◌, ◌⊎◌, List}
+use Rattle.cn_edge.specs.Causes.{CountsFault}
 use Rattle.std.specs.declared.option.Option.{Option}
 use Rattle.std.specs.Io.KnownBytes.{Keeps, Appends}
 use Rattle.cn_edge.specs.Whole.{AppendsPart}
 use Rattle.connect_run.specs.declared.status.Status.{Status}
 use Rattle.connect_run.specs.declared.status.Status.TheVariants.{WriteFault, NoMemory}
+
+-- The status is this fault only where one was counted, and wherever one was.
+pub record TellsFault (before now : ℕ) (fault result : Status) : Type 0 where
+  pub counted : result ≡ fault → CountsFault before now
+  pub told : (now ≡ before) ⊎ (result ≡ fault)
 
 -- The text is written whole and the status is this one, or a part that isn't the whole is.
 abbrev pub Says : Option (List ℕ) → Option (List ℕ) → List ℕ → Status → Status → Type 0

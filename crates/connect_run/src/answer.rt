@@ -1,5 +1,4 @@
 ghost use Rattle.std.specs.Prelude.{ℕ, List, ◌≡◌, ◌⊎◌, Some, None, true, map, string_bytes, IfOk};
-ghost use Rattle.cn_edge.specs.Causes.{CountsFault};
 ghost use Rattle.graph_core.specs.Graph.{IsWithinSize};
 ghost use Rattle.problem_defs.specs.Ask.{misfit_of, KIsInRange};
 ghost use Rattle.problem_defs.specs.declared.ask.Ask.{Ask as AskValue};
@@ -9,7 +8,7 @@ ghost use Rattle.connect_run.specs.Built.{Commands, is_solved, is_solving};
 ghost use Rattle.connect_run.specs.Answer.{AnswersGraph, AnswersInput};
 ghost use Rattle.connect_run.specs.CheckCase.{AnswersCheck};
 ghost use Rattle.connect_run.specs.SolvedCase.{verdict, AnswersSolved};
-ghost use Rattle.connect_run.specs.Saying.{Says, Replies};
+ghost use Rattle.connect_run.specs.Saying.{TellsFault, Says, Replies};
 
 use crate::lines::{fault_line, rejected_line, unsuited_line};
 use crate::{Status, solve};
@@ -31,9 +30,12 @@ struct SolvedText {
 
 /// Writes the text, and answers the status where it was written whole.
 pub fn say<K: Sink>(sink: &mut K, status: Status, text: &[u8]) -> Status
-    requires { status ≡ Status.WriteFault → ⊥ }
+    requires write { status ≡ Status.WriteFault → ⊥ }
+    requires read { status ≡ Status.ReadFault → ⊥ }
+    requires memory { status ≡ Status.NoMemory → ⊥ }
     ensures said { Says (K.written sink.old) (K.written sink.new) text.now status result }
-    ensures write { result ≡ Status.WriteFault → CountsFault (K.faults sink.old) (K.faults sink.new) }
+    ensures write { TellsFault (K.faults sink.old) (K.faults sink.new) Status.WriteFault result }
+    ensures unwritten { (result ≡ Status.ReadFault) ⊎ (result ≡ Status.NoMemory) → sink.new ≡ sink.old }
 {
     match write_all(sink, text) {
         Ok(()) => status,
@@ -51,7 +53,8 @@ pub fn reply<K: Sink>(
 ) -> Status
     requires { Commands (map string_bytes words.now) command.now }
     ensures replies { Replies (AnswersInput command.now (map string_bytes words.now) input.now) (K.written sink.old) (K.written sink.new) result }
-    ensures write { result ≡ Status.WriteFault → CountsFault (K.faults sink.old) (K.faults sink.new) }
+    ensures write { TellsFault (K.faults sink.old) (K.faults sink.new) Status.WriteFault result }
+    ensures unwritten { (result ≡ Status.ReadFault) ⊎ (result ≡ Status.NoMemory) → sink.new ≡ sink.old }
 {
     match command {
         Command::Check => reply_to_check(alloc, input, sink),
@@ -70,7 +73,8 @@ fn reply_to_text<K: Sink>(
     requires commands { Commands (map string_bytes words.now) command.now }
     requires solving { is_solving command.now ≡ true }
     ensures replies { Replies (AnswersInput command.now (map string_bytes words.now) input.now) (K.written sink.old) (K.written sink.new) result }
-    ensures write { result ≡ Status.WriteFault → CountsFault (K.faults sink.old) (K.faults sink.new) }
+    ensures write { TellsFault (K.faults sink.old) (K.faults sink.new) Status.WriteFault result }
+    ensures unwritten { (result ≡ Status.ReadFault) ⊎ (result ≡ Status.NoMemory) → sink.new ≡ sink.old }
 {
     match read_graph_alone(alloc, input) {
         Ok(graph) => reply_to_graph(alloc, command, words, &graph, sink),
@@ -85,7 +89,8 @@ fn reply_to_text<K: Sink>(
 // Answers an input that is to be checked.
 fn reply_to_check<K: Sink>(alloc: Global, input: &[u8], sink: &mut K) -> Status
     ensures replies { (words : List (List ℕ)) → Replies (AnswersInput Command.Check words input.now) (K.written sink.old) (K.written sink.new) result }
-    ensures write { result ≡ Status.WriteFault → CountsFault (K.faults sink.old) (K.faults sink.new) }
+    ensures write { TellsFault (K.faults sink.old) (K.faults sink.new) Status.WriteFault result }
+    ensures unwritten { (result ≡ Status.ReadFault) ⊎ (result ≡ Status.NoMemory) → sink.new ≡ sink.old }
 {
     match read_graph(alloc, input) {
         Ok((graph, count)) => reply_to_certificate(alloc, &graph, &input[count..], sink),
@@ -99,9 +104,9 @@ fn reply_to_check<K: Sink>(alloc: Global, input: &[u8], sink: &mut K) -> Status
 
 // Accepts or rejects what follows a graph.
 fn reply_to_certificate<K: Sink>(alloc: Global, graph: &Graph, bytes: &[u8], sink: &mut K) -> Status
-    requires { IsWithinSize graph.now }
     ensures replies { Replies (AnswersCheck graph.now bytes.now) (K.written sink.old) (K.written sink.new) result }
-    ensures write { result ≡ Status.WriteFault → CountsFault (K.faults sink.old) (K.faults sink.new) }
+    ensures write { TellsFault (K.faults sink.old) (K.faults sink.new) Status.WriteFault result }
+    ensures unwritten { (result ≡ Status.ReadFault) ⊎ (result ≡ Status.NoMemory) → sink.new ≡ sink.old }
 {
     match check(alloc, graph, bytes) {
         Ok(()) => say(sink, Status::Done, b"accepted\n"),
@@ -125,7 +130,8 @@ fn reply_to_graph<K: Sink>(
     requires solving { is_solving command.now ≡ true }
     requires size { IsWithinSize graph.now }
     ensures replies { Replies (AnswersGraph command.now (map string_bytes words.now) graph.now) (K.written sink.old) (K.written sink.new) result }
-    ensures write { result ≡ Status.WriteFault → CountsFault (K.faults sink.old) (K.faults sink.new) }
+    ensures write { TellsFault (K.faults sink.old) (K.faults sink.new) Status.WriteFault result }
+    ensures unwritten { (result ≡ Status.ReadFault) ⊎ (result ≡ Status.NoMemory) → sink.new ≡ sink.old }
     ensures unsuited { (ask : AskValue) (misfit : MisfitValue) → asked graph.now (map string_bytes words.now) command.now ≡ Some ask
         → misfit_of graph.now ask ≡ Some misfit → (result ≡ Status.Unsuited) ⊎ (result ≡ Status.WriteFault) }
 {

@@ -1,7 +1,7 @@
 ghost use Rattle.std.specs.Prelude.{◌≡◌, ◌≤◌, ◌⊎◌, map, string_bytes, IfSome, IfOk, IfErr};
-ghost use Rattle.cn_edge.specs.Causes.{CountsFault};
 ghost use Rattle.connect_run.specs.Built.{is_built, Commands, AreCommand};
 ghost use Rattle.connect_run.specs.WordsCase.{IsBadPlace};
+ghost use Rattle.connect_run.specs.Saying.{TellsFault};
 ghost use Rattle.connect_run.specs.Run.{Writes, TakesWithin, ReadsWithin, Drains, IsExact, IsComplete};
 
 use crate::Status;
@@ -23,9 +23,10 @@ pub fn connect_run<S: Source, K: Sink>(
 ) -> Status
     ensures written { Writes (map string_bytes words.now) (S.left source.old) (K.written sink.old) (K.written sink.new) result }
 
-    // A fault is told only where it was counted in this call.
-    ensures read { result ≡ Status.ReadFault → CountsFault (S.faults source.old) (S.faults source.new) }
-    ensures write { result ≡ Status.WriteFault → CountsFault (K.faults sink.old) (K.faults sink.new) }
+    // A fault is told where one was counted in this call, and only there.
+    ensures read { TellsFault (S.faults source.old) (S.faults source.new) Status.ReadFault result }
+    ensures write { TellsFault (K.faults sink.old) (K.faults sink.new) Status.WriteFault result }
+    ensures unwritten { (result ≡ Status.ReadFault) ⊎ (result ≡ Status.NoMemory) → sink.new ≡ sink.old }
 
     // Words that are no command are answered, memory or not, and leave the source untouched.
     ensures no_command { (AreCommand (map string_bytes words.now) → ⊥) → (result ≡ Status.BadWords) ⊎ (result ≡ Status.WriteFault) }
@@ -49,8 +50,9 @@ fn serve<S: Source, K: Sink>(
     sink: &mut K,
 ) -> Status
     ensures written { Writes (map string_bytes words.now) (S.left source.old) (K.written sink.old) (K.written sink.new) result }
-    ensures read { result ≡ Status.ReadFault → CountsFault (S.faults source.old) (S.faults source.new) }
-    ensures write { result ≡ Status.WriteFault → CountsFault (K.faults sink.old) (K.faults sink.new) }
+    ensures read { TellsFault (S.faults source.old) (S.faults source.new) Status.ReadFault result }
+    ensures write { TellsFault (K.faults sink.old) (K.faults sink.new) Status.WriteFault result }
+    ensures unwritten { (result ≡ Status.ReadFault) ⊎ (result ≡ Status.NoMemory) → sink.new ≡ sink.old }
     ensures no_command { (AreCommand (map string_bytes words.now) → ⊥) → (result ≡ Status.BadWords) ⊎ (result ≡ Status.WriteFault) }
     ensures untouched { (AreCommand (map string_bytes words.now) → ⊥) → source.new ≡ source.old }
     ensures drained { AreCommand (map string_bytes words.now) → (result ≡ Status.ReadFault → ⊥) → (result ≡ Status.NoMemory → ⊥)
@@ -102,8 +104,9 @@ fn serve_command<S: Source, K: Sink>(
 ) -> Status
     requires { Commands (map string_bytes words.now) command.now }
     ensures written { Writes (map string_bytes words.now) (S.left source.old) (K.written sink.old) (K.written sink.new) result }
-    ensures read { result ≡ Status.ReadFault → CountsFault (S.faults source.old) (S.faults source.new) }
-    ensures write { result ≡ Status.WriteFault → CountsFault (K.faults sink.old) (K.faults sink.new) }
+    ensures read { TellsFault (S.faults source.old) (S.faults source.new) Status.ReadFault result }
+    ensures write { TellsFault (K.faults sink.old) (K.faults sink.new) Status.WriteFault result }
+    ensures unwritten { (result ≡ Status.ReadFault) ⊎ (result ≡ Status.NoMemory) → sink.new ≡ sink.old }
     ensures drained { (result ≡ Status.ReadFault → ⊥) → (result ≡ Status.NoMemory → ⊥) → Drains (S.left source.old) (S.left source.new) }
     ensures no_memory { result ≡ Status.NoMemory → (source.new ≡ source.old) ⊎ ReadsWithin (S.left source.old) (S.left source.new) }
     ensures taken { TakesWithin (S.left source.old) (S.left source.new) }

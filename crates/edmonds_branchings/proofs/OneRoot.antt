@@ -1,5 +1,5 @@
 -- All branchings begin at one root.
-use Rattle.std.specs.Prelude.{ℕ, zero, suc, ◌≡◌, ◌^◌, ◌<◌, ◌≤◌, ◌==◌, Bool, List, length, replicate, slice_set, slice_index, slice_index_or, All, refl}
+use Rattle.std.specs.Prelude.{ℕ, zero, suc, ◌≡◌, ◌^◌, ◌<◌, ◌==◌, Bool, List, length, replicate, slice_set, slice_index, slice_index_or, All, refl}
 use Rattle.std.proofs.Common.{◌∙◌, inl, inr, arith, lit<}
 use Rattle.std.proofs.lemmas.Bool.{cases_Bool}
 use Rattle.std.proofs.lemmas.List.{length-set, length-replicate, get_or-set_same, get_or-set_other}

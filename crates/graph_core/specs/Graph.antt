@@ -31,7 +31,7 @@ pub record IsGraph (g : GraphValue) : Type 0 where
   pub makes : MakesGraph g
   pub named : All IsName g.names
 
--- the size that the solvers and the checker are made for
+-- the size that the solvers are made for
 pub record IsWithinSize (g : GraphValue) : Type 0 where
   pub nodes : length g.names ≤ 128
   pub lines : length g.lines ≤ 2048
