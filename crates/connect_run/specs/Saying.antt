@@ -7,7 +7,7 @@ use Rattle.cn_edge.specs.Whole.{AppendsPart}
 use Rattle.connect_run.specs.declared.status.Status.{Status}
 use Rattle.connect_run.specs.declared.status.Status.TheVariants.{WriteFault, NoMemory}
 
--- The status is this fault only where one was counted, and wherever one was.
+-- The status is this fault only where one was counted, and wherever the count has changed.
 pub record TellsFault (before now : ℕ) (fault result : Status) : Type 0 where
   pub counted : result ≡ fault → CountsFault before now
   pub told : (now ≡ before) ⊎ (result ≡ fault)
