@@ -3,9 +3,13 @@
 
 usage: bench.py [PROGRAM [RUNS [COMMAND..]]]
 
+`large` among the commands stands for the table of single graphs, most of them as large as may be, for augmentations and
+orientations. Without a command all tables are printed.
+
 Each time is the least of RUNS (5), in milliseconds of a processor, from the start of the process to its end: of the
 answer, of `check` on that answer, and of the yardstick, tools/yardstick.cpp, which is built where a C++ compiler is and
 whose values are compared with the program's. Growth is how often the time of an answer goes into that of the next size.
+Ends with 1 where a run has another answer than it has to have.
 """
 
 import random
@@ -26,6 +30,9 @@ COMMANDS = [
     ("arborescences", lambda n: ["n1"], (True,)),
     ("trees", lambda n: [], (False,)),
     ("forests", lambda n: [], (False,)),
+    ("augment", lambda n: ["8"], (False,)),
+    ("augment-arcs", lambda n: ["4"], (True,)),
+    ("orient", lambda n: ["1"], (False,)),
 ]
 
 
@@ -38,6 +45,22 @@ def ring(n):
 def some(n, m):
     rng = random.Random(n * m)
     return ring(n) + [tuple(rng.sample(range(1, n + 1), 2)) for _ in range(m - n)]
+
+
+def loose(n, m):
+    rng = random.Random(n * m)
+    return [tuple(rng.sample(range(1, n + 1), 2)) for _ in range(m)]
+
+
+def upward(pairs):
+    """Each pair from its smaller number to its larger one, so that there is no circuit of arcs."""
+    return [tuple(sorted(pair)) for pair in pairs]
+
+
+def tree_and_more(n):
+    """A tree and 3n random lines, each from its smaller number to its larger one."""
+    rng = random.Random(n)
+    return [(rng.randrange(1, v), v) for v in range(2, n + 1)] + upward(rng.sample(range(1, n + 1), 2) for _ in range(3 * n))
 
 
 def grid(n):
@@ -57,6 +80,23 @@ FORMS = [
     ("random, m = 16n", lambda n: some(n, 16 * n)),
     ("complete", complete),
     ("path, each line 16 times", lambda n: [(v, v + 1) for v in range(1, n) for _ in range(16)]),
+]
+
+
+# Words, how many nodes, what the lines are, and whether they are arcs.
+LARGE = [
+    ("augment 32", 128, "no edge", [], False),
+    ("augment 32", 128, "ring", ring(128), False),
+    ("augment 32", 128, "2,048 random edges", loose(128, 2048), False),
+    ("augment 8", 64, "tree and 192 random edges", tree_and_more(64), False),
+    ("augment-arcs 32", 128, "no arc", [], True),
+    ("augment-arcs 32", 128, "directed ring", ring(128), True),
+    ("augment-arcs 32", 128, "2,048 random arcs", loose(128, 2048), True),
+    ("augment-arcs 32", 128, "2,048 random arcs, no circuit", upward(loose(128, 2048)), True),
+    ("augment-arcs 4", 128, "tree and 384 random arcs, no circuit", tree_and_more(128), True),
+    ("orient 1", 128, "ring and 1,920 random edges", some(128, 2048), False),
+    ("orient 8", 128, "ring and 1,920 random edges", some(128, 2048), False),
+    ("orient 16", 64, "ring and 1,984 random edges", some(64, 2048), False),
 ]
 
 
@@ -98,8 +138,10 @@ def yardstick(room):
 
 
 def value_of(command, text):
-    """The certificate's value; of a cut tree the sum of the weights."""
+    """The certificate's value; of a cut tree the sum of the weights, and of an orientation whether there is one."""
     lines = [line.split() for line in text.decode().split("\n")]
+    if command == "orient":
+        return int(["impossible"] not in lines)
     if command == "cuttree":
         return sum(int(words[3]) for words in lines if words[:1] == ["tree"])
     return next(int(words[1]) for words in lines if words[:1] == ["value"])
@@ -110,18 +152,28 @@ def is_built(program, words, data):
     return (text, status) != (b"words 1\n", 3)
 
 
+def want(words, got, wanted):
+    if got != wanted:
+        sys.exit(f"{' '.join(words)}: {got} in the place of {wanted}")
+
+
 def times(program, plain, runs, words, data):
-    """The times of the answer, of its check and of the yardstick; a command that isn't checked has none of a check."""
+    """The value, and the times of the answer, its check and the yardstick; a command that isn't checked has none of a check."""
     text, status, own = timed([program, *words], data, runs)
-    assert status == 0, (words, text, status)
+    want(words, status, 1 if b"\nimpossible\n" in text else 0)
     said, accepted, check = timed([program, "check"], data + text, runs)
     is_checked = said != b"rejected malformed 2\n"
-    assert not is_checked or (said, accepted) == (b"accepted\n", 0), (words, said)
-    if not plain:
-        return own, check if is_checked else None, None
-    value, _, least = timed([plain, *words], data, runs)
-    assert int(value) == value_of(words[0], text), (words, value, text)
-    return own, check if is_checked else None, least
+    if is_checked:
+        want([*words, "and check"], (said, accepted), (b"accepted\n", 0))
+    found, least = value_of(words[0], text), None
+    if plain:
+        value, _, least = timed([plain, *words], data, runs)
+        want([*words, "and the yardstick's value"], found, int(value))
+    return found, (own, check if is_checked else None, least)
+
+
+def shown(found):
+    return ["-" if it is None else f"{it:.1f}" for it in found]
 
 
 def row(program, plain, runs, command, words_for, directed, make):
@@ -132,13 +184,29 @@ def row(program, plain, runs, command, words_for, directed, make):
         if len(pairs) > MOST_LINES:
             cells.append("")
             continue
-        found = times(program, plain, runs, [command, *words_for(n)], text_of(n, pairs, directed))
-        cells.append(" / ".join("-" if it is None else f"{it:.1f}" for it in found))
+        _, found = times(program, plain, runs, [command, *words_for(n)], text_of(n, pairs, directed))
+        cells.append(" / ".join(shown(found)))
         own.append(found[0])
     return [*cells, ", ".join(f"{after / before:.1f}" for before, after in zip(own, own[1:]))]
 
 
+def print_large(program, plain, runs):
+    print("## Single graphs, most of them as large as may be\n")
+    print("| Words | Nodes | Lines | Value | Answer | `check` | Yardstick |\n|---|---|---|---|---|---|---|")
+    for asked, n, lines, pairs, directed in LARGE:
+        value, found = times(program, plain, runs, asked.split(), text_of(n, pairs, directed))
+        if asked.startswith("orient"):
+            value = "done" if value else "impossible"
+        print("|", " | ".join([f"`{asked}`", str(n), lines, str(value), *shown(found)]), "|", flush=True)
+    print()
+
+
 def main(words):
+    if {"-h", "--help"} & {*words}:
+        print(__doc__)
+        return
+    if words[1:] and not words[1].isdigit() or not {*words[2:]} <= {"large", *(name for name, *_ in COMMANDS)}:
+        sys.exit(__doc__)
     program = words[0] if words else str(HERE.parent / "crates/connect/out/connect")
     runs = int(words[1]) if len(words) > 1 else 5
     with tempfile.TemporaryDirectory() as room:
@@ -155,6 +223,8 @@ def main(words):
                 for form, make in FORMS:
                     print("|", " | ".join([form, *row(program, plain, runs, command, words_for, directed, make)]), "|", flush=True)
                 print()
+        if not words[2:] or "large" in words[2:]:
+            print_large(program, plain, runs)
 
 
 if __name__ == "__main__":

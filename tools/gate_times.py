@@ -3,7 +3,7 @@
 
 usage: gate_times.py [WORD..], with what `rt ci` is to be given
 
-Processor seconds are read off /proc once a second, so a step shorter than that may be missed.
+Processor seconds are read off /proc once a second, so a step shorter than that may be missed. Ends as the gate does.
 """
 
 import os
@@ -46,9 +46,12 @@ def listen(gate, began, said):
             print(f"{time.time() - began:6.0f} s  {said[-1]}", flush=True)
 
 
-def main():
+def main(words):
+    if {"-h", "--help"} & {*words}:
+        print(__doc__)
+        return 0
     began = time.time()
-    gate = subprocess.Popen(["rt", "ci", *sys.argv[1:]], stdout=subprocess.PIPE, stderr=subprocess.STDOUT, text=True)
+    gate = subprocess.Popen(["rt", "ci", *words], stdout=subprocess.PIPE, stderr=subprocess.STDOUT, text=True)
     said = []
     reader = threading.Thread(target=listen, args=(gate, began, said))
     reader.start()
@@ -71,4 +74,4 @@ def main():
 
 
 if __name__ == "__main__":
-    sys.exit(main())
+    sys.exit(main(sys.argv[1:]))

@@ -183,6 +183,16 @@ def most_walks(n, lines, directed, s, t):
         found += 1
 
 
+def connectivity(n, lines, directed):
+    """The greatest k for which the graph is k-edge-connected or k-arc-connected; None where it has one node."""
+    ways = [(0, t) for t in range(1, n)] + ([(t, 0) for t in range(1, n)] if directed else [])
+    return min((most_walks(n, lines, directed, s, t) for s, t in ways), default=None)
+
+
+def is_connected(n, lines, directed, k):
+    return n == 1 or connectivity(n, lines, directed) >= k
+
+
 def is_walk(graph, s, t, numbers):
     """Whether the lines with these numbers, from 0, are a walk from s to t."""
     at = s
@@ -261,6 +271,45 @@ def most_trees(n, lines):
 
 def fewest_forests(n, lines):
     return max((-(-induced(lines, X) // (len(X) - 1)) for X in sides(list(range(n))) if len(X) > 1), default=0)
+
+
+def are_disjoint(n, sets):
+    """Whether each set is proper, and no node is in two."""
+    return all(0 < len(s) < n for s in sets) and len(set().union(*sets)) == sum(map(len, sets))
+
+
+def is_partition(n, sets):
+    return all(sets) and sorted(v for s in sets for v in s) == list(range(n))
+
+
+def disjoint_families(n):
+    """Each list of disjoint proper sides: a partition of the nodes and one more, without the class of that one."""
+    for classes in partitions(list(range(n + 1))):
+        family = [c for c in classes if n not in c]
+        if are_disjoint(n, family):
+            yield family
+
+
+def lacking(lines, k, sets, count):
+    """How many lines the sets lack in all, where each wants k; count is degree, entering or leaving."""
+    return max(0, sum(k - count(lines, s) for s in sets))
+
+
+def least_edges(n, lines, k):
+    """The fewest edges that make an undirected graph k-edge-connected."""
+    if k == 1:
+        return next(len(p) for p in sorted(partitions(list(range(n))), key=len, reverse=True) if between(lines, p) == 0) - 1
+    return max((lacking(lines, k, family, degree) + 1) // 2 for family in disjoint_families(n))
+
+
+def least_arcs(n, lines, k):
+    """The fewest arcs that make a digraph k-arc-connected."""
+    return max(lacking(lines, k, family, count) for family in disjoint_families(n) for count in (entering, leaving))
+
+
+def has_orientation(n, lines, k):
+    """Whether some orientation is k-arc-connected: each proper side has 2k edges."""
+    return all(degree(lines, side) >= 2 * k for side in sides(list(range(n))) if len(side) < n)
 
 
 # ---- certificates
@@ -390,7 +439,33 @@ def judge(graph, words, seen):
         return None
     if command in ("arborescences", "trees", "forests"):
         return judge_parts(graph, words, of("part"), sets, value)
+    if command in ("augment", "augment-arcs"):
+        dual = next(name.split()[1] for name, _ in seen if name.startswith("dual "))
+        return judge_new_lines(graph, int(words[1]), dual, of("arc" if graph.directed else "edge"), sets, value)
+    if command == "orient":
+        return judge_orientation(graph, int(words[1]), of("arc"), sets)
     raise NotImplementedError(command)
+
+
+def judge_new_lines(graph, k, dual, pairs, sets, value):
+    """Edges or arcs that are added, and the sets that need so many."""
+    n, lines = len(graph.names), graph.lines
+    feasible = all(u != v for u, v in pairs) and is_connected(n, [*lines, *pairs], graph.directed, k)
+    if dual == "components":
+        right, bound = is_partition(n, sets) and between(lines, sets) == 0, len(sets) - 1
+    elif dual == "subpartition":
+        right, bound = are_disjoint(n, sets), (lacking(lines, k, sets, degree) + 1) // 2
+    else:
+        right, bound = are_disjoint(n, sets), lacking(lines, k, sets, {"in": entering, "out": leaving}[dual])
+    return "infeasible" if not feasible else "dual" if not right else None if value == len(pairs) == bound else "gap"
+
+
+def judge_orientation(graph, k, arcs, sets):
+    """An orientation, or a side that has too few edges for any."""
+    n = len(graph.names)
+    if sets:
+        return None if 0 < len(sets[0]) < n and degree(graph.lines, sets[0]) < 2 * k else "dual"
+    return None if is_connected(n, arcs, True, k) else "infeasible"
 
 
 def judge_parts(graph, words, parts, sets, value):
@@ -403,7 +478,7 @@ def judge_parts(graph, words, parts, sets, value):
         right, bound = sets[0] and root not in sets[0], entering(lines, sets[0])
     elif words[0] == "trees":
         feasible = feasible and all(len(part) == n - 1 and is_forest(n, [lines[j][:2] for j in part]) for part in parts)
-        right = len(sets) > 1 and all(sets) and sorted(v for s in sets for v in s) == list(range(n))
+        right = len(sets) > 1 and is_partition(n, sets)
         bound = between(lines, sets) // (len(sets) - 1) if right else 0
     else:
         feasible = sorted(used) == list(range(len(lines))) and all(is_forest(n, [lines[j][:2] for j in part]) for part in parts)

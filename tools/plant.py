@@ -8,7 +8,7 @@ the lines 'file:', 'old:' and 'new:' of a must-fail edit. They are tried in a co
 function sees of the others only their contracts, so that bugs in different functions are tried by one check; with
 --alone each is tried by itself, as a must-fail edit. A bug that no proof refuses, or that is refused only since a proof
 names what it took away, is tried by itself with the tests of library_tests and of connect_tests. --only takes the bugs
-whose title has the words (a regular expression).
+whose title has the words (a regular expression). Ends with 0 where each bug is refused by a proof or caught by a test.
 """
 
 import os
@@ -229,6 +229,9 @@ def tell(crate, plants):
 
 
 def main(words):
+    if {"-h", "--help"} & {*words}:
+        print(__doc__)
+        return 0
     jobs, log, alone, only = 2, None, False, ""
     while words and words[0].startswith("--"):
         flag = words.pop(0)

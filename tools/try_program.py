@@ -2,6 +2,9 @@
 """Tries the built program on random graphs and broken texts, and compares each answer with plain ones.
 
 usage: try_program.py [PROGRAM [ROUNDS [SEED]]]
+
+PROGRAM is the one that ./connect builds, ROUNDS is 300 and SEED is 1 where they are left out. Ends with 0 where all came
+out as wanted. Else it says what didn't, leaves the input as failed.graph, and ends with 1.
 """
 
 import random
@@ -11,15 +14,19 @@ from pathlib import Path
 
 import graphs as plain
 
-SOLVED = ["flow", "cuttree", "arborescences", "trees", "forests"]
+# The commands that are built, and those whose certificates are checked.
+SOLVED = ["flow", "cuttree", "augment", "augment-arcs", "arborescences", "trees", "forests", "orient"]
 CHECKED = SOLVED
+# The plain searches for a best value pass over all families of disjoint sides, of which seven nodes have too many.
+MOST_SEARCHED = 6
 HERE = Path(__file__).resolve().parent
 EXIT = {"rejected": 2, "words": 3, "graph": 4, "large": 5, "unsuited": 6}
 
 
 def run(program, words, data):
-    done = subprocess.run([program, *words], input=data, capture_output=True, timeout=120)
-    assert done.stderr == b"", done.stderr
+    done = subprocess.run([program, *words], input=data, capture_output=True, timeout=120, check=False)
+    if done.stderr:
+        fail(words, data, done.stderr, b"nothing on standard error")
     return done.stdout, done.returncode
 
 
@@ -72,7 +79,14 @@ def best_value(graph, words):
         return plain.most_trees(len(graph.names), graph.lines)
     if words[0] == "forests":
         return plain.fewest_forests(len(graph.names), graph.lines)
+    if words[0] in ("augment", "augment-arcs") and len(graph.names) <= MOST_SEARCHED:
+        least = plain.least_arcs if graph.directed else plain.least_edges
+        return least(len(graph.names), graph.lines, int(words[1]))
     return None
+
+
+def is_possible(graph, words):
+    return words[0] != "orient" or plain.has_orientation(len(graph.names), graph.lines, int(words[1]))
 
 
 def compare(program, words, data):
@@ -87,7 +101,8 @@ def compare(program, words, data):
         return
     graph, taken, _ = plain.read_graph(data)
     said, seen, _, size = plain.read_certificate(graph, text)
-    expect(words, data, (said, size, status), (words, len(text), 0))
+    expect(words, data, (said, size, status), (words, len(text), 0 if is_possible(graph, words) else 1))
+    expect(words, data, ("impossible", None) in seen, status == 1)
     expect(words, data, plain.judge(graph, said, seen), None)
     best = best_value(graph, words)
     if best is not None:
@@ -103,8 +118,12 @@ def compare(program, words, data):
 
 def expect(words, data, got, wanted):
     if got != wanted:
-        Path("failed.graph").write_bytes(data)
-        sys.exit(f"connect {' '.join(words)} < failed.graph\n got {got}\n wanted {wanted}")
+        fail(words, data, got, wanted)
+
+
+def fail(words, data, got, wanted):
+    Path("failed.graph").write_bytes(data)
+    sys.exit(f"connect {' '.join(words)} < failed.graph\n got {got}\n wanted {wanted}")
 
 
 # ---- random texts
@@ -171,17 +190,37 @@ def random_words(names, directed):
     if random.random() < 0.1:
         pool = list(plain.COMMANDS) + plain.KINDS + names + ["0", "1", "02", "32", "33", "+1", "4294967296", "", "a b"]
         return [random.choice(pool) for _ in range(random.randint(0, 4))]
-    suited = ["flow", "arborescences"] if directed else ["flow", "cuttree", "trees", "forests"]
-    command = random.choice(suited if random.random() < 0.9 else SOLVED)
+    suited = ["flow", "arborescences", "augment-arcs"] if directed else ["flow", "cuttree", "trees", "forests", "augment", "orient"]
+    command = random.choice([it for it in suited if it in SOLVED] if random.random() < 0.9 else SOLVED)
     pick = lambda: random.choice(names) if random.random() < 0.97 else "nobody"
-    return [command] + {"flow": [pick(), pick()], "arborescences": [pick()]}.get(command, [])
+    k = str(random.choice([1, 1, 2, 2, 3, 4, 5, random.randint(1, 32)]))
+    after = {"flow": [pick(), pick()], "arborescences": [pick()], "augment": [k], "augment-arcs": [k], "orient": [k]}
+    return [command] + after.get(command, [])
 
 
-def main():
-    program = sys.argv[1] if len(sys.argv) > 1 else str(HERE.parent / "crates/connect/out/connect")
-    rounds = int(sys.argv[2]) if len(sys.argv) > 2 else 300
-    seed = int(sys.argv[3]) if len(sys.argv) > 3 else 1
+# Inputs that random ones seldom are. In the second graph sets that lack entering arcs cross, so that only sets that lack
+# leaving ones prove the answer.
+FIXED = [
+    (["augment-arcs", "1"], b"graph directed\nnode a\nnode b\nnode c\narc a b\narc a c\nend\n"),
+    (["augment-arcs", "2"], b"graph directed\nnode c\nnode a\nnode b\n" + 2 * b"arc c a\narc c b\n" + b"arc a c\narc b c\nend\n"),
+    (["augment", "3"], b"graph undirected\nnode a\nnode b\nnode c\nend\n"),
+    (["augment", "32"], b"graph undirected\nnode a\nend\n"),
+    (["orient", "1"], b"graph undirected\nnode a\nnode b\nnode c\nnode d\n" + b"".join(b"edge %c %c\n" % tuple(p) for p in [b"ab", b"ac", b"ad", b"bc", b"bd", b"cd"]) + b"end\n"),
+    (["orient", "1"], b"graph undirected\nnode a\nnode b\nedge a b\nend\n"),
+]
+
+
+def main(words):
+    if {"-h", "--help"} & {*words}:
+        print(__doc__)
+        return
+    if len(words) > 3 or not all(word.isdigit() for word in words[1:]):
+        sys.exit(__doc__)
+    program = words[0] if words else str(HERE.parent / "crates/connect/out/connect")
+    rounds, seed = (int(word) for word in [*words[1:], *["300", "1"][len(words[1:]):]])
     random.seed(seed)
+    for words, data in FIXED:
+        compare(program, words, data)
     for _ in range(rounds):
         directed = random.random() < 0.4
         names, lines = random_graph(directed)
@@ -193,4 +232,4 @@ def main():
 
 
 if __name__ == "__main__":
-    main()
+    main(sys.argv[1:])

@@ -5,7 +5,8 @@ usage: want_of_memory.py [PROGRAM]
 
 With the N-th allocation refused, for N = 1, 2, .. until none is, the program has to end with 9 and to write nothing, or to
 answer as it does with ample memory. A C file of a few lines, which the script compiles, stands before the C library's
-malloc and counts the allocations of the process from the start of `main` on.
+malloc and counts the allocations of the process from the start of `main` on. Ends with 0 where each run ended so, or where
+there is no C compiler, and else with 1.
 """
 
 import os
@@ -46,6 +47,9 @@ COMMANDS = [
     ("trees", "backbone.graph"),
     ("forests", "square.graph"),
     ("forests", "backbone.graph"),
+    ("augment 3", "backbone.graph"),
+    ("augment-arcs 2", DIGRAPH),
+    ("orient 1", "backbone.graph"),
     # Refusals, which take memory, too.
     ("flow a", "square.graph"),
     ("flow a a", "square.graph"),
@@ -148,8 +152,13 @@ def try_command(program, shim, words, data):
         number += 1
 
 
-def main():
-    program = sys.argv[1] if len(sys.argv) > 1 else str(HERE.parent / "crates/connect/out/connect")
+def main(words):
+    if {"-h", "--help"} & {*words}:
+        print(__doc__)
+        return
+    if len(words) > 1:
+        sys.exit(__doc__)
+    program = words[0] if words else str(HERE.parent / "crates/connect/out/connect")
     print("| Command | Graph | Refused, one at a time | Exit 9, nothing written | Answered all the same |\n|---|---|---|---|---|")
     with tempfile.TemporaryDirectory() as room:
         shim = build(room)
@@ -169,4 +178,4 @@ def main():
 
 
 if __name__ == "__main__":
-    main()
+    main(sys.argv[1:])

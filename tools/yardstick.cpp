@@ -1,6 +1,7 @@
 // A plain program to compare times and values with: it reads a graph text and prints the value of a best answer.
-// usage: yardstick flow S T | cuttree | arborescences R | trees | forests, with a graph text on standard input
-// For cuttree the value is the sum of the weights, which is the same for every cut tree.
+// usage: yardstick flow S T | cuttree | arborescences R | trees | forests | augment K | augment-arcs K | orient K, with a
+// graph text on standard input. For cuttree the value is the sum of the weights, which is the same for every cut tree, and
+// for orient it is 1 where there is an orientation and 0 where there is none.
 #include <algorithm>
 #include <cstdio>
 #include <iostream>
@@ -42,15 +43,24 @@ struct Network {
     vector<size_t> next;
     vector<char> off;
 
-    Network(const Graph& graph) : from(graph.nodes()), off(graph.lines.size()) {
-        for (auto [tail, head] : graph.lines) {
-            from[tail].push_back((int)to.size());
-            to.push_back(head);
-            whole.push_back(1);
-            from[head].push_back((int)to.size());
-            to.push_back(tail);
-            whole.push_back(graph.directed ? 0 : 1);
-        }
+    Network(const Graph& graph) : from(graph.nodes()) {
+        for (auto [tail, head] : graph.lines) add(tail, head, 1, graph.directed ? 0 : 1);
+    }
+
+    void add(int tail, int head, int room_there, int room_back) {
+        from[tail].push_back((int)to.size());
+        to.push_back(head);
+        whole.push_back(room_there);
+        from[head].push_back((int)to.size());
+        to.push_back(tail);
+        whole.push_back(room_back);
+        off.push_back(false);
+    }
+
+    void drop_last() {
+        int tail = to.back(), head = to[to.size() - 2];
+        from[tail].pop_back(), from[head].pop_back();
+        to.resize(to.size() - 2), whole.resize(to.size()), off.pop_back();
     }
 
     bool search(int s, int t) {
@@ -89,6 +99,57 @@ struct Network {
         return sent;
     }
 };
+
+// New lines from a new node, as few as may be at each node in turn, so that at least k lines enter each set of other nodes,
+// of which it lacks one; or likewise lines to a new node that leave. How many they are.
+int least_star(const Graph& graph, int k, bool entering) {
+    int n = graph.nodes(), sum = 0, both = graph.directed ? 0 : 1, spokes = 2 * (int)graph.lines.size();
+    Graph wide = graph;
+    wide.number.emplace(" ", n);
+    Network net(wide);
+    for (int v = 0; v < n; v++) entering ? net.add(n, v, k, k * both) : net.add(v, n, k, k * both);
+    for (int v = 0; v < n && n > 1; v++) {
+        int spoke = spokes + 2 * v, least = k;
+        net.whole[spoke] = net.whole[spoke + 1] = 0;
+        for (int t = 0; t < n; t++) {
+            if (t == v) continue;
+            // The new node lies beside t.
+            int much = 1 << 20;
+            entering ? net.add(t, n, much, much * both) : net.add(n, t, much, much * both);
+            least = min(least, entering ? net.flow(t, v, k) : net.flow(v, t, k));
+            net.drop_last();
+        }
+        net.whole[spoke] = k - least;
+        net.whole[spoke + 1] = (k - least) * both;
+        sum += k - least;
+    }
+    return sum;
+}
+
+// The fewest new edges (Frank): half of a least star, rounded up; for k = 1 one less than the components.
+int augment(const Graph& graph, int k) {
+    if (k > 1) return (least_star(graph, k, true) + 1) / 2;
+    Network net(graph);
+    int apart = 0;
+    for (int v = 1; v < graph.nodes(); v++) {
+        bool joined = false;
+        for (int u = 0; u < v && !joined; u++) joined = net.flow(u, v, 1) > 0;
+        apart += !joined;
+    }
+    return apart;
+}
+
+int augment_arcs(const Graph& graph, int k) {
+    return max(least_star(graph, k, true), least_star(graph, k, false));
+}
+
+// Whether there is a k-arc-connected orientation (Nash-Williams): each cut has 2k edges.
+bool orient(const Graph& graph, int k) {
+    Network net(graph);
+    for (int v = 1; v < graph.nodes(); v++)
+        if (net.flow(0, v, 2 * k) < 2 * k) return false;
+    return true;
+}
 
 // Gusfield's cut tree; after a flow from s the levels tell the side of s.
 int cut_tree(const Graph& graph) {
@@ -228,6 +289,9 @@ int main(int count, char** words) {
         : command == "cuttree" ? cut_tree(graph)
         : command == "arborescences" ? arborescences(graph, graph.number[words[2]])
         : command == "trees" ? trees(graph)
-        : forests(graph);
+        : command == "forests" ? forests(graph)
+        : command == "augment" ? augment(graph, stoi(words[2]))
+        : command == "augment-arcs" ? augment_arcs(graph, stoi(words[2]))
+        : orient(graph, stoi(words[2]));
     printf("%d\n", value);
 }

@@ -1,11 +1,11 @@
 pub mod ArborescenceLaws
+pub mod CopyLaws
 pub mod Ends
+pub mod Enough
 pub mod Feasible
-pub mod LeastCuts
 pub mod LineCounts
 pub mod MarkLaws
 pub mod OneAnswer
 pub mod ReachLaws
-pub mod RowLaws
 pub mod SideCounts
 pub mod TreeLaws

@@ -15,7 +15,8 @@ use Rattle.graph_core.specs.declared.graph.Line.{Line}
 use Rattle.graph_core.proofs.Counting.{weight, All-both, none-pass}
 use Rattle.graph_core.proofs.FamilyLaws.{size-nonempty, count_by-map}
 use Rattle.problem_defs.specs.CutTree.{tree_lines, IsSpanningTree, IsLeastCut}
-use Rattle.certificate_checker.specs.TreeSides.{pair_at, inside, AreUncrossed, IsReach, NoneIsLess}
+use Rattle.certificate_checker.specs.TreeSides.{pair_at, inside, AreUncrossed, IsReach}
+use Rattle.flow_cuts.specs.NodeCuts.{NoneIsLess}
 use lib.Lanes.{zip2}
 
 -- X is a side of pair j: it holds the first node and misses the second, and no other pair crosses it
@@ -194,7 +195,7 @@ one-crosses n pairs j X l s =
 
 -- a pair of a tree is a least cut if its side has its weight and no other side between its nodes less
 pub right-pair : (g : GraphValue) (pairs : List (ℕ × ℕ × ℕ)) → IsSpanningTree g pairs → All (λ p. (p.0 < length g.names) × (p.1 < length g.names)) pairs
-    → (j : ℕ) (S : List Bool) (w : ℕ) → j < length pairs → IsReach (length g.names) pairs j S → degree S g.lines ≡ w → NoneIsLess g (pair_at pairs j).0 (pair_at pairs j).1 w
+    → (j : ℕ) (S : List Bool) (w : ℕ) → j < length pairs → IsReach (length g.names) pairs j S → degree S g.lines ≡ w → NoneIsLess (length g.names) g.lines (pair_at pairs j).0 (pair_at pairs j).1 w
     → IsLeastCut g pairs (pair_at pairs j).0 (pair_at pairs j).1 w
 right-pair g pairs tree nodes j S w l r is least = record {
   weight = λ X e holds misses one. ap (λ Y. degree Y g.lines) (one-side g pairs tree nodes j S X l (tree-side g pairs tree j S l r) e holds misses one) ∙ is;

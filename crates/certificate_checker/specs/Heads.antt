@@ -1,4 +1,4 @@
--- The heads of arcs, as those of a spanning arborescence are.
+-- The heads of arcs, as those of a spanning arborescence are. No public clause cites it.
 use Rattle.std.specs.Prelude.{ℕ, ◌≡◌, ◌<◌, ◌==◌, List, if◌then◌else◌}
 use Rattle.graph_core.specs.Trees.{in_degree}
 use Rattle.graph_core.specs.declared.graph.Line.{Line}

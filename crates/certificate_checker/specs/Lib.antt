@@ -1,10 +1,10 @@
 pub mod Accepted
 pub mod Checked
+pub mod Copies
 pub mod Flaws
 pub mod Heads
-pub mod Judged
+pub mod FirstLack
 pub mod Malformed
 pub mod Marks
-pub mod MatroidOf
 pub mod Reason
 pub mod TreeSides

@@ -1,4 +1,4 @@
--- Marks on numbers.
+-- Marks on numbers. No public clause cites it.
 use Rattle.std.specs.Prelude.{ℕ, Bool, List, if◌then◌else◌}
 use Rattle.graph_core.specs.Side.{has}
 

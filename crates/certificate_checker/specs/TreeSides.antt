@@ -1,11 +1,13 @@
--- The sides that pairs of nodes cut, as those of a tree do.
-use Rattle.std.specs.Prelude.{◌≡◌, ℕ, ◌+◌, ◌≤◌, Bool, true, false, ◌&&◌, List, length, slice_index_or, remove, count_by, All}
-use Rattle.graph_core.specs.Graph.{GraphValue}
-use Rattle.graph_core.specs.Lines.{differ, degree}
+-- The sides that pairs of nodes cut, as those of a tree do. No public clause cites it.
+use Rattle.std.specs.Prelude.{◌≡◌, ℕ, ◌+◌, ◌<◌, ◌≤◌, Bool, true, false, ◌&&◌, List, length, slice_index_or, remove, count_by, All}
 use Rattle.graph_core.specs.Side.{has, size}
 
 abbrev pub pair_at : List (ℕ × ℕ × ℕ) → ℕ → ℕ × ℕ × ℕ
 pair_at pairs j = slice_index_or pairs j (0, 0, 0)
+
+-- the pairs are of n nodes
+abbrev pub AreIn : ℕ → List (ℕ × ℕ × ℕ) → Type 0
+AreIn n pairs = All (λ p. (p.0 < n) × (p.1 < n)) pairs
 
 -- how many pairs have both nodes in X
 abbrev pub inside : List Bool → List (ℕ × ℕ × ℕ) → ℕ
@@ -36,7 +38,3 @@ pub record IsReach (n : ℕ) (pairs : List (ℕ × ℕ × ℕ)) (j : ℕ) (X : L
   pub holds : has X (pair_at pairs j).0 ≡ true
   pub uncrossed : AreUncrossed X (remove pairs j)
   pub paid : size X ≤ inside X (remove pairs j) + 1
-
--- no side between u and v is left by fewer than w edges
-abbrev pub NoneIsLess : GraphValue → ℕ → ℕ → ℕ → Type 0
-NoneIsLess g u v w = (Y : List Bool) → length Y ≡ length g.names → differ (has Y u) (has Y v) ≡ true → w ≤ degree Y g.lines

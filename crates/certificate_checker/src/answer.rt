@@ -1,34 +1,30 @@
 ghost use Rattle.std.specs.Prelude.{◌≡◌, ◌≤◌, true, length, OnOk, IfErr};
-ghost use Rattle.problem_defs.specs.Meets.{HasObject, HasDual, HasValue};
-ghost use Rattle.problem_defs.specs.Ask.{misfit_of};
-ghost use Rattle.problem_defs.specs.Shaped.{IsShaped, Belongs, AreRows, DualIsInRange};
+ghost use Rattle.problem_defs.specs.Claims.{claims};
+ghost use Rattle.problem_defs.specs.Shaped.{IsShaped};
 ghost use Rattle.problem_defs.specs.declared.cert.Body.TheVariants.{Parts};
 ghost use Rattle.certificate_text.specs.BadLine.{whole_lines};
 ghost use Rattle.certificate_checker.specs.Accepted.{IsAccepted};
 ghost use Rattle.certificate_checker.specs.Checked.{is_checked};
-ghost use Rattle.certificate_checker.specs.Judged.{IsJudged};
+ghost use Rattle.certificate_checker.specs.FirstLack.{FirstLack};
 ghost use Rattle.certificate_checker.specs.Reason.{IsReason};
 
-use crate::arborescences::judge_arborescences;
 use crate::cut_tree::judge_cut_tree;
-use crate::flow::judge_flow;
-use crate::forests::{judge_forests, judge_no_forests};
+use crate::decide::judge_answer;
+use crate::orient::{judge_no_orientation, judge_orientation};
 use crate::rejection::Rejection;
-use crate::trees::judge_trees;
 use certificate_text::{CertRefusal, read_cert};
 use graph_core::{Graph, NumberRows};
-use problem_defs::{ArborescencesAsk, Ask, Body, Cert, FlowAsk, PartsDual};
+use problem_defs::{
+    ArborescencesAsk, Ask, AugmentArcsAsk, AugmentAsk, Body, Cert, Family, FlowAsk, ForestDual,
+    ForestsAsk, PartsDual, TreesAsk,
+};
 use std::alloc::Global;
 
 /// Whether the checker knows what a certificate of the command has to show.
 fn is_checked(ask: Ask) -> bool
     ensures { result ≡ is_checked ask }
 {
-    match ask {
-        Ask::Flow { .. } | Ask::CutTree | Ask::Arborescences { .. } | Ask::Trees | Ask::Forests =>
-            true,
-        _ => false,
-    }
+    ask.verb().is_built()
 }
 
 /// How many lines the bytes have, each with its LF.
@@ -40,58 +36,110 @@ fn line_count(bytes: &[u8]) -> usize
 }
 
 /// Judges a packing or a cover.
-fn judge_parts(
+fn judge_packing(
     alloc: Global,
     graph: &Graph,
     ask: Ask,
     value: u64,
-    rows: &NumberRows,
-    dual: &PartsDual,
+    rows: NumberRows,
+    dual: PartsDual,
 ) -> Result<(), Rejection>
-    requires suits { misfit_of graph.now ask ≡ None }
-    requires belongs { Belongs ask (Parts value rows.now dual.now) }
-    requires rows { AreRows (length graph.now.lines) rows.now }
-    requires dual { DualIsInRange (length graph.now.names) dual.now }
-    ensures { IsJudged (HasObject graph.now ask (Parts value rows.now dual.now)) (HasDual graph.now ask (Parts value rows.now dual.now)) (HasValue graph.now ask (Parts value rows.now dual.now)) result }
+    requires shaped { IsShaped graph.now (record { ask = ask; body = Parts value rows dual }) }
+    requires checked { is_checked ask ≡ true }
+    ensures { FirstLack (claims graph.now ask (Parts value rows dual)) result }
 {
-    graph.known();
     match (ask, dual) {
-        (Ask::Arborescences { root }, PartsDual::Cut(side)) => judge_arborescences(
+        (Ask::Arborescences { root }, PartsDual::Cut(side)) => judge_answer(
             alloc,
             graph,
-            ArborescencesAsk { root },
+            &ArborescencesAsk { root },
             value,
-            rows,
-            side,
+            &rows,
+            &side,
         ),
-        (Ask::Trees, PartsDual::Partition(classes)) => judge_trees(
-            alloc, graph, value, rows, classes,
+        (Ask::Trees, PartsDual::Partition(classes)) => judge_answer(
+            alloc, graph, &TreesAsk, value, &rows, &classes,
         ),
-        (Ask::Forests, PartsDual::Induced(side)) => judge_forests(alloc, graph, value, rows, side),
-        (Ask::Forests, PartsDual::Nothing) => judge_no_forests(alloc, graph, value, rows),
+        (Ask::Forests, PartsDual::Induced(side)) => judge_answer(
+            alloc,
+            graph,
+            &ForestsAsk,
+            value,
+            &rows,
+            &ForestDual::Induced(side),
+        ),
+        (Ask::Forests, PartsDual::Nothing) => judge_answer(
+            alloc,
+            graph,
+            &ForestsAsk,
+            value,
+            &rows,
+            &ForestDual::Nothing,
+        ),
         _ => unreachable!("the dual belongs to the ask"),
     }
 }
 
-/// Judges what a certificate says of the graph. Each command has a module that decides by its definitions.
-fn judge(alloc: Global, graph: &Graph, cert: &Cert) -> Result<(), Rejection>
-    requires shaped { IsShaped graph.now cert.now }
-    requires checked { is_checked cert.now.ask ≡ true }
-    ensures { IsJudged (HasObject graph.now cert.now.ask cert.now.body) (HasDual graph.now cert.now.ask cert.now.body) (HasValue graph.now cert.now.ask cert.now.body) result }
+/// Judges what a certificate says of the graph.
+fn judge(alloc: Global, graph: &Graph, cert: Cert) -> Result<(), Rejection>
+    requires shaped { IsShaped graph.now cert }
+    requires checked { is_checked cert.ask ≡ true }
+    ensures { FirstLack (claims graph.now cert.ask cert.body) result }
 {
-    match (cert.ask, &cert.body) {
-        (Ask::Flow { from, to }, Body::Walks { value, rows, cut }) => judge_flow(
-            alloc,
-            graph,
-            FlowAsk { from, to },
-            *value,
-            rows,
-            cut,
-        ),
-        (Ask::CutTree, Body::Tree(pairs)) => judge_cut_tree(alloc, graph, pairs),
-        (ask, Body::Parts { value, rows, dual }) => judge_parts(
-            alloc, graph, ask, *value, rows, dual,
-        ),
+    let Cert { ask, body } = cert;
+    match body {
+        Body::Tree(pairs) => judge_cut_tree(alloc, graph, &pairs),
+        Body::Walks { value, rows, cut } => match ask {
+            Ask::Flow { from, to } => judge_answer(
+                alloc,
+                graph,
+                &FlowAsk { from, to },
+                value,
+                &rows,
+                &cut,
+            ),
+            _ => unreachable!("the body belongs to the ask"),
+        },
+        Body::Edges {
+            value,
+            pairs,
+            sides,
+        } => match ask {
+            Ask::Augment { k } => judge_answer(
+                alloc,
+                graph,
+                &AugmentAsk { k },
+                value,
+                &pairs,
+                &sides,
+            ),
+            _ => unreachable!("the body belongs to the ask"),
+        },
+        Body::Arcs {
+            value,
+            pairs,
+            way,
+            sides,
+        } => match ask {
+            Ask::AugmentArcs { k } => judge_answer(
+                alloc,
+                graph,
+                &AugmentArcsAsk { k },
+                value,
+                &pairs,
+                &Family { way, sides },
+            ),
+            _ => unreachable!("the body belongs to the ask"),
+        },
+        Body::Parts { value, rows, dual } => judge_packing(alloc, graph, ask, value, rows, dual),
+        Body::Turned(heads) => match ask {
+            Ask::Orient { k } => judge_orientation(alloc, graph, k, &heads),
+            _ => unreachable!("the body belongs to the ask"),
+        },
+        Body::Never(side) => match ask {
+            Ask::Orient { k } => judge_no_orientation(graph, k, &side),
+            _ => unreachable!("the body belongs to the ask"),
+        },
         _ => unreachable!("the body belongs to the ask"),
     }
 }
@@ -114,5 +162,5 @@ pub fn check(alloc: Global, graph: &Graph, bytes: &[u8]) -> Result<(), Rejection
         let line = line_count(&bytes[..count]) + 1;
         return Err(Rejection::Malformed { line });
     }
-    judge(alloc, graph, &cert)
+    judge(alloc, graph, cert)
 }

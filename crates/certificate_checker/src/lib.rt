@@ -3,11 +3,17 @@
 
 mod answer;
 mod arborescences;
+mod augment;
+mod connected;
+mod copies;
 mod cut_tree;
+mod decide;
+mod families;
 mod flow;
 mod forests;
 mod law;
 mod marks;
+mod orient;
 mod parts;
 mod reach;
 mod rejection;

@@ -1,7 +1,7 @@
 ghost use Rattle.std.specs.Prelude.{◌≡◌, ℕ, ◌+◌, ◌<◌, ◌≤◌, ◌++◌, true, false, All, length};
 ghost use Rattle.std.specs.Bool.{OnTrue, OnFalse};
 ghost use Rattle.graph_core.specs.Side.{has, size};
-ghost use Rattle.certificate_checker.specs.TreeSides.{AddsOther, AreUncrossed, IsGrown, IsReach};
+ghost use Rattle.certificate_checker.specs.TreeSides.{AddsOther, AreIn, AreUncrossed, IsGrown, IsReach};
 
 use graph_core::Side;
 
@@ -27,7 +27,7 @@ fn add_other(side: &mut Side, u: u32, v: u32) -> bool
 
 /// Adds the other node of each pair that crosses the side, in one pass. Whether there was such a pair.
 fn spread(side: &mut Side, pairs: &[(u32, u32, u64)]) -> bool
-    requires nodes { All (λ p. (p.0 < length side.old) × (p.1 < length side.old)) pairs.now }
+    requires nodes { AreIn (length side.old) pairs.now }
     ensures grown { IsGrown pairs.now side.old side.new }
     ensures more { OnTrue result (size side.old < size side.new) }
     ensures done { OnFalse result ((side.new ≡ side.old) × AreUncrossed side.new pairs.now) }
@@ -43,8 +43,8 @@ fn spread(side: &mut Side, pairs: &[(u32, u32, u64)]) -> bool
 
 /// Adds what the pairs connect to the side.
 fn grow(side: &mut Side, before: &[(u32, u32, u64)], behind: &[(u32, u32, u64)])
-    requires before { All (λ p. (p.0 < length side.old) × (p.1 < length side.old)) before.now }
-    requires behind { All (λ p. (p.0 < length side.old) × (p.1 < length side.old)) behind.now }
+    requires before { AreIn (length side.old) before.now }
+    requires behind { AreIn (length side.old) behind.now }
     ensures grown { IsGrown (before.now ++ behind.now) side.old side.new }
     ensures done { AreUncrossed side.new (before.now ++ behind.now) }
 {
@@ -58,7 +58,7 @@ fn grow(side: &mut Side, before: &[(u32, u32, u64)], behind: &[(u32, u32, u64)])
 
 /// Makes the side what pair `j`'s first node reaches by the other pairs.
 pub fn reach(side: &mut Side, pairs: &[(u32, u32, u64)], j: usize)
-    requires nodes { All (λ p. (p.0 < length side.old) × (p.1 < length side.old)) pairs.now }
+    requires nodes { AreIn (length side.old) pairs.now }
     requires j { j < length pairs.now }
     ensures { IsReach (length side.old) pairs.now j side.new }
 {

@@ -10,7 +10,7 @@ use Rattle.certificate_text.specs.Words.{spelled}
 use Rattle.certificate_text.specs.Valid.{ValidAll}
 use Rattle.certificate_text.specs.Lines.{lines}
 use Rattle.problem_defs.specs.Shaped.{IsShaped}
-use Rattle.certificate_text.specs.Allowed.{BeginsLines, NoEnd}
+use Rattle.certificate_text.specs.MayBegin.{BeginsLines, NoEnd}
 use Rattle.certificate_text.specs.Text.{byte_lines}
 use Rattle.certificate_text.specs.BadLine.{Begins, whole_lines, IsBad}
 use Rattle.certificate_text.specs.Reading.{HasRead, MayNotCome, Stops}

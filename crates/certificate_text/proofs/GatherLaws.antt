@@ -1,50 +1,51 @@
--- The body is read off its lines.
+-- What the lines of a row hold, gathered.
 use Rattle.std.proofs.Common.{◌≡◌, ◌≢◌, ℕ, ◌==◌, Bool, true, false, cond, List, [], ◌∷◌, ◌++◌, map, length, refl, sym, ap, ◌∙◌, append_assoc, append-nil, All, eq-eqb, arith}
 use Rattle.std.proofs.lemmas.Bool.Decides.{nat_tests}
 use Rattle.std.proofs.lemmas.List.Elements.{All-head, All-tail}
-use Rattle.graph_core.specs.Graph.{GraphValue, IsGraph, Fits}
+use Rattle.graph_core.specs.Graph.{GraphValue, Fits}
 use Rattle.graph_core.specs.declared.graph.Line.{Line}
-use Rattle.problem_defs.specs.Shaped.{Belongs, IsInRange}
-use Rattle.problem_defs.specs.declared.ask.Ask.{Ask}
-use Rattle.problem_defs.specs.declared.ask.Ask.TheVariants as ask
-use Rattle.problem_defs.specs.declared.cert.Body.{Body}
-use Rattle.problem_defs.specs.declared.cert.Body.TheVariants as body
-use Rattle.problem_defs.specs.declared.cert.PartsDual.TheVariants as parts
-use Rattle.problem_defs.specs.declared.cert.Cert.{Cert}
-use Rattle.problem_defs.specs.declared.cert.Way.TheVariants.{Entering, Leaving}
 use Rattle.certificate_text.specs.declared.line.CertLine.{CertLine}
 use Rattle.certificate_text.specs.declared.line.CertLine.TheVariants as line
-use Rattle.certificate_text.specs.declared.line.DualKind.TheVariants as kind
-use Rattle.certificate_text.specs.declared.gather.Content.{Content}
-use Rattle.certificate_text.specs.Table.{augment_kind}
-use Rattle.certificate_text.specs.Lines.{body_lines, lines, turned_lines, set_lines}
-use Rattle.problem_defs.specs.Shaped.{IsShaped}
-use Rattle.certificate_text.specs.Gather.{nothing, grown, gather, heads_of, body_of}
+use Rattle.certificate_text.specs.declared.row.Form.{Form}
+use Rattle.certificate_text.specs.declared.row.Form.TheVariants as form
+use Rattle.certificate_text.specs.declared.row.Piece.{Piece}
+use Rattle.certificate_text.specs.declared.row.Piece.TheVariants.{One, Any, EachLine}
+use Rattle.certificate_text.specs.declared.gather.Gathered.{Gathered}
+use Rattle.certificate_text.specs.Lines.{turned_lines}
+use Rattle.certificate_text.specs.Gather.{with_line, gather, heads_of}
+use Rattle.certificate_text.proofs.HeldRows.{Holds, made, HeldPiece, piece_lines, Held, held_lines}
+
+gather-append : (c : Gathered) (xs ys : List CertLine) → gather c (xs ++ ys) ≡ gather (gather c xs) ys
+gather-append c [] ys = refl
+gather-append c (x ∷ xs) ys = gather-append (with_line c x) xs ys
 
 -- lines of one form add to one list
-gather_paths : (c : Content) (rows : List (List ℕ)) (ys : List CertLine) → gather c (map line.Path rows ++ ys) ≡ gather (record c { rows = c.rows ++ rows }) ys
-gather_paths c [] ys = ap (λ l. gather (record c { rows = l }) ys) (sym (append-nil c.rows))
-gather_paths c (js ∷ rows) ys = gather_paths (grown c (line.Path js)) rows ys ∙ ap (λ l. gather (record c { rows = l }) ys) (append_assoc c.rows (js ∷ []) rows)
+abbrev with_all : (f : Form) → List (Holds f) → Gathered → Gathered
+with_all form.Path held c = record c { rows = c.rows ++ held }
+with_all form.Part held c = record c { rows = c.rows ++ held }
+with_all form.Join held c = record c { rows = c.rows ++ held }
+with_all form.Tree held c = record c { trees = c.trees ++ held }
+with_all form.Edge held c = record c { pairs = c.pairs ++ held }
+with_all form.Arc held c = record c { pairs = c.pairs ++ held }
+with_all form.Set held c = record c { sides = c.sides ++ held }
+with_all f held c = gather c (map (made f) held)
 
-gather_parts : (c : Content) (rows : List (List ℕ)) (ys : List CertLine) → gather c (map line.Part rows ++ ys) ≡ gather (record c { rows = c.rows ++ rows }) ys
-gather_parts c [] ys = ap (λ l. gather (record c { rows = l }) ys) (sym (append-nil c.rows))
-gather_parts c (js ∷ rows) ys = gather_parts (grown c (line.Part js)) rows ys ∙ ap (λ l. gather (record c { rows = l }) ys) (append_assoc c.rows (js ∷ []) rows)
-
-gather_trees : (c : Content) (ps : List (ℕ × ℕ × ℕ)) (ys : List CertLine) → gather c (map (λ p. line.Tree p.0 p.1 p.2) ps ++ ys) ≡ gather (record c { trees = c.trees ++ ps }) ys
-gather_trees c [] ys = ap (λ l. gather (record c { trees = l }) ys) (sym (append-nil c.trees))
-gather_trees c (p ∷ ps) ys = gather_trees (grown c (line.Tree p.0 p.1 p.2)) ps ys ∙ ap (λ l. gather (record c { trees = l }) ys) (append_assoc c.trees (p ∷ []) ps)
-
-gather_edges : (c : Content) (ps : List (ℕ × ℕ)) (ys : List CertLine) → gather c (map (λ p. line.Edge p.0 p.1) ps ++ ys) ≡ gather (record c { pairs = c.pairs ++ ps }) ys
-gather_edges c [] ys = ap (λ l. gather (record c { pairs = l }) ys) (sym (append-nil c.pairs))
-gather_edges c (p ∷ ps) ys = gather_edges (grown c (line.Edge p.0 p.1)) ps ys ∙ ap (λ l. gather (record c { pairs = l }) ys) (append_assoc c.pairs (p ∷ []) ps)
-
-gather_arcs : (c : Content) (ps : List (ℕ × ℕ)) (ys : List CertLine) → gather c (map (λ p. line.Arc p.0 p.1) ps ++ ys) ≡ gather (record c { pairs = c.pairs ++ ps }) ys
-gather_arcs c [] ys = ap (λ l. gather (record c { pairs = l }) ys) (sym (append-nil c.pairs))
-gather_arcs c (p ∷ ps) ys = gather_arcs (grown c (line.Arc p.0 p.1)) ps ys ∙ ap (λ l. gather (record c { pairs = l }) ys) (append_assoc c.pairs (p ∷ []) ps)
-
-gather_sets : (c : Content) (sides : List (List Bool)) (ys : List CertLine) → gather c (set_lines sides ++ ys) ≡ gather (record c { sides = c.sides ++ sides }) ys
-gather_sets c [] ys = ap (λ l. gather (record c { sides = l }) ys) (sym (append-nil c.sides))
-gather_sets c (X ∷ sides) ys = gather_sets (grown c (line.Set X)) sides ys ∙ ap (λ l. gather (record c { sides = l }) ys) (append_assoc c.sides (X ∷ []) sides)
+gather-map : (f : Form) (held : List (Holds f)) (c : Gathered) → gather c (map (made f) held) ≡ with_all f held c
+gather-map form.Path [] c = ap (λ l. record c { rows = l }) (sym (append-nil c.rows))
+gather-map form.Path (js ∷ held) c = gather-map form.Path held (with_line c (line.Path js)) ∙ ap (λ l. record c { rows = l }) (append_assoc c.rows (js ∷ []) held)
+gather-map form.Part [] c = ap (λ l. record c { rows = l }) (sym (append-nil c.rows))
+gather-map form.Part (js ∷ held) c = gather-map form.Part held (with_line c (line.Part js)) ∙ ap (λ l. record c { rows = l }) (append_assoc c.rows (js ∷ []) held)
+gather-map form.Join [] c = ap (λ l. record c { rows = l }) (sym (append-nil c.rows))
+gather-map form.Join (js ∷ held) c = gather-map form.Join held (with_line c (line.Join js)) ∙ ap (λ l. record c { rows = l }) (append_assoc c.rows (js ∷ []) held)
+gather-map form.Tree [] c = ap (λ l. record c { trees = l }) (sym (append-nil c.trees))
+gather-map form.Tree (p ∷ held) c = gather-map form.Tree held (with_line c (line.Tree p.0 p.1 p.2)) ∙ ap (λ l. record c { trees = l }) (append_assoc c.trees (p ∷ []) held)
+gather-map form.Edge [] c = ap (λ l. record c { pairs = l }) (sym (append-nil c.pairs))
+gather-map form.Edge (p ∷ held) c = gather-map form.Edge held (with_line c (line.Edge p.0 p.1)) ∙ ap (λ l. record c { pairs = l }) (append_assoc c.pairs (p ∷ []) held)
+gather-map form.Arc [] c = ap (λ l. record c { pairs = l }) (sym (append-nil c.pairs))
+gather-map form.Arc (p ∷ held) c = gather-map form.Arc held (with_line c (line.Arc p.0 p.1)) ∙ ap (λ l. record c { pairs = l }) (append_assoc c.pairs (p ∷ []) held)
+gather-map form.Set [] c = ap (λ l. record c { sides = l }) (sym (append-nil c.sides))
+gather-map form.Set (X ∷ held) c = gather-map form.Set held (with_line c (line.Set X)) ∙ ap (λ l. record c { sides = l }) (append_assoc c.sides (X ∷ []) held)
+gather-map f held c = refl
 
 -- an orientation's lines are arcs
 abbrev turned_pairs : List Line → List Bool → List (ℕ × ℕ)
@@ -52,7 +53,7 @@ turned_pairs [] heads = []
 turned_pairs (l ∷ ls) [] = []
 turned_pairs (l ∷ ls) (b ∷ heads) = cond b (l.tail, l.head) (l.head, l.tail) ∷ turned_pairs ls heads
 
-turned_arcs : (ls : List Line) (heads : List Bool) → turned_lines ls heads ≡ map (λ p. line.Arc p.0 p.1) (turned_pairs ls heads)
+turned_arcs : (ls : List Line) (heads : List Bool) → turned_lines ls heads ≡ map (made form.Arc) (turned_pairs ls heads)
 turned_arcs [] heads = refl
 turned_arcs (l ∷ ls) [] = refl
 turned_arcs (l ∷ ls) (true ∷ heads) = ap (λ x. line.Arc l.tail l.head ∷ x) (turned_arcs ls heads)
@@ -61,7 +62,7 @@ turned_arcs (l ∷ ls) (false ∷ heads) = ap (λ x. line.Arc l.head l.tail ∷ 
 not_same : (a b : ℕ) → a ≢ b → (b == a) ≡ false
 not_same a b apart = grind (arith, nat_tests)
 
-heads-back : (n : ℕ) (ls : List Line) (heads : List Bool) → All (Fits n) ls → length heads ≡ length ls → heads_of ls (turned_pairs ls heads) ≡ heads
+pub heads-back : (n : ℕ) (ls : List Line) (heads : List Bool) → All (Fits n) ls → length heads ≡ length ls → heads_of ls (turned_pairs ls heads) ≡ heads
 heads-back n [] [] fit e = refl
 heads-back n [] (b ∷ heads) fit e = absurd (omega (arith, e))
 heads-back n (l ∷ ls) [] fit e = absurd (omega (arith, e))
@@ -73,35 +74,24 @@ heads-back n (l ∷ ls) (false ∷ heads) fit e =
     let here = All-head (Fits n) l ls fit in
     λ i. not_same l.tail l.head here.apart i ∷ heads-back n ls heads (All-tail (Fits n) l ls fit) shorter i
 
-pub body-back : (g : GraphValue) (x : Ask) (b : Body) → IsGraph g → Belongs x b → IsInRange (length g.names) (length g.lines) b → body_of g x (gather nothing (body_lines g x b)) ≡ b
-body-back g (ask.Flow s t) (body.Walks value rows cut) is belongs range = ap (body_of g (ask.Flow s t)) (gather_paths (record nothing { value = value }) rows (line.Dual kind.Cut ∷ line.Set cut ∷ line.End ∷ []))
-body-back g ask.CutTree (body.Tree pairs) is belongs range = ap (body_of g ask.CutTree) (gather_trees nothing pairs (line.End ∷ []))
-body-back g (ask.Augment k) (body.Edges value pairs sides) is belongs range =
-    ap (body_of g (ask.Augment k)) (gather_edges (record nothing { value = value }) pairs (line.Dual (augment_kind k) ∷ (set_lines sides ++ line.End ∷ [])) ∙ gather_sets (record nothing { value = value; pairs = pairs; kind = augment_kind k }) sides (line.End ∷ []))
-body-back g (ask.AugmentArcs k) (body.Arcs value pairs Entering sides) is belongs range =
-    ap (body_of g (ask.AugmentArcs k)) (gather_arcs (record nothing { value = value }) pairs (line.Dual kind.In ∷ (set_lines sides ++ line.End ∷ [])) ∙ gather_sets (record nothing { value = value; pairs = pairs; kind = kind.In }) sides (line.End ∷ []))
-body-back g (ask.AugmentArcs k) (body.Arcs value pairs Leaving sides) is belongs range =
-    ap (body_of g (ask.AugmentArcs k)) (gather_arcs (record nothing { value = value }) pairs (line.Dual kind.Out ∷ (set_lines sides ++ line.End ∷ [])) ∙ gather_sets (record nothing { value = value; pairs = pairs; kind = kind.Out }) sides (line.End ∷ []))
-body-back g (ask.Arborescences r) (body.Parts value rows (parts.Cut side)) is belongs range = ap (body_of g (ask.Arborescences r)) (gather_parts (record nothing { value = value }) rows (line.Dual kind.Cut ∷ line.Set side ∷ line.End ∷ []))
-body-back g ask.Trees (body.Parts value rows (parts.Partition sides)) is belongs range =
-    ap (body_of g ask.Trees) (gather_parts (record nothing { value = value }) rows (line.Dual kind.Partition ∷ (set_lines sides ++ line.End ∷ [])) ∙ gather_sets (record nothing { value = value; rows = rows; kind = kind.Partition }) sides (line.End ∷ []))
-body-back g ask.Forests (body.Parts value rows (parts.Induced side)) is belongs range = ap (body_of g ask.Forests) (gather_parts (record nothing { value = value }) rows (line.Dual kind.Induced ∷ line.Set side ∷ line.End ∷ []))
-body-back g ask.Forests (body.Parts value rows parts.Nothing) is belongs range = ap (body_of g ask.Forests) (gather_parts (record nothing { value = value }) rows (line.Dual kind.Nothing ∷ line.End ∷ []))
-body-back g (ask.Orient k) (body.Turned heads) is belongs range =
-    ap (λ l. body_of g (ask.Orient k) (gather nothing (l ++ line.End ∷ []))) (turned_arcs g.lines heads)
-    ∙ ap (body_of g (ask.Orient k)) (gather_arcs nothing (turned_pairs g.lines heads) (line.End ∷ []))
-    ∙ ap body.Turned (heads-back (length g.names) g.lines heads is.makes.ends range)
-body-back g (ask.Orient k) (body.Never side) is belongs range = refl
-body-back g ask.Dijoin (body.Join value numbers sides) is belongs range = ap (body_of g ask.Dijoin) (gather_sets (record nothing { value = value; rows = numbers ∷ []; kind = kind.Dicuts }) sides (line.End ∷ []))
-body-back g ask.Dijoin (body.Never side) is belongs range = refl
-body-back g x b is belongs range = absurd belongs
+-- the content with what a piece holds, and with what a row holds
+abbrev pub piece_content : (g : GraphValue) (piece : Piece) → HeldPiece g piece → Gathered → Gathered
+piece_content g (One f) held c = with_line c (made f held)
+piece_content g (Any f) held c = with_all f held c
+piece_content g (EachLine f) held c = with_all form.Arc (turned_pairs g.lines held.0) c
 
--- the lines of two certificates differ
-pub lines-same : (g : GraphValue) (a b : Cert) → IsGraph g → IsShaped g a → IsShaped g b → lines g a ≡ lines g b → a ≡ b
-lines-same g a b is wa wb e =
-    let ask : a.ask ≡ b.ask = cc in
-    let rest : body_lines g a.ask a.body ≡ body_lines g b.ask b.body = cc in
-    let back = body-back g a.ask a.body is wa.belongs wa.in_range in
-    let other = body-back g b.ask b.body is wb.belongs wb.in_range in
-    let body : a.body ≡ b.body = sym back ∙ (λ i. body_of g (ask i) (gather nothing (rest i))) ∙ other in
-    λ i. record { ask = ask i; body = body i }
+abbrev pub row_content : (g : GraphValue) (row : List Piece) → Held g row → Gathered → Gathered
+row_content g [] held c = c
+row_content g (piece ∷ row) held c = row_content g row held.1 (piece_content g piece held.0 c)
+
+gather-piece : (g : GraphValue) (piece : Piece) (held : HeldPiece g piece) (c : Gathered) → gather c (piece_lines g piece held) ≡ piece_content g piece held c
+gather-piece g (One f) held c = refl
+gather-piece g (Any f) held c = gather-map f held c
+gather-piece g (EachLine f) held c = ap (gather c) (turned_arcs g.lines held.0) ∙ gather-map form.Arc (turned_pairs g.lines held.0) c
+
+pub gather-row : (g : GraphValue) (row : List Piece) (held : Held g row) (c : Gathered) → gather c (held_lines g row held) ≡ row_content g row held c
+gather-row g [] held c = refl
+gather-row g (piece ∷ row) held c =
+    gather-append c (piece_lines g piece held.0) (held_lines g row held.1)
+    ∙ ap (λ d. gather d (held_lines g row held.1)) (gather-piece g piece held.0 c)
+    ∙ gather-row g row held.1 (piece_content g piece held.0 c)

@@ -1,284 +1,118 @@
--- What a row takes is the lines of a body, and the lines of a body are taken by a row.
-use Rattle.std.proofs.Common.{◌≡◌, ℕ, ◌<◌, ◌^◌, Bool, true, false, List, [], ◌∷◌, ◌++◌, map, length, refl, sym, ap, subst, ◌∙◌, inl, inr, Some, All}
-use Rattle.graph_core.specs.Graph.{GraphValue}
-use Rattle.problem_defs.specs.Shaped.{Belongs, IsInRange}
+-- The lines of a body are what its row takes, and it is read off them. A further row has a line in `in-row` and one in `row-body`.
+use Rattle.std.proofs.Common.{◌≡◌, true, List, [], ◌∷◌, length, refl, sym, ap, subst, ◌∙◌, inl, inr, Some}
+use Rattle.std.proofs.lemmas.Bool.{and_parts}
+use Rattle.graph_core.specs.Graph.{GraphValue, IsGraph}
+use Rattle.problem_defs.specs.Shaped.{Belongs, IsInRange, IsShaped}
 use Rattle.problem_defs.specs.declared.ask.Ask.{Ask}
 use Rattle.problem_defs.specs.declared.ask.Ask.TheVariants as ask
 use Rattle.problem_defs.specs.declared.cert.Body.{Body}
 use Rattle.problem_defs.specs.declared.cert.Body.TheVariants as body
+use Rattle.problem_defs.specs.declared.cert.Cert.{Cert}
 use Rattle.problem_defs.specs.declared.cert.PartsDual.TheVariants as parts
 use Rattle.problem_defs.specs.declared.cert.Way.TheVariants.{Entering, Leaving}
 use Rattle.certificate_text.specs.declared.line.CertLine.{CertLine}
-use Rattle.certificate_text.specs.declared.line.CertLine.TheVariants as line
-use Rattle.certificate_text.specs.declared.line.DualKind.{DualKind}
-use Rattle.certificate_text.specs.declared.line.DualKind.TheVariants as kind
-use Rattle.certificate_text.specs.declared.row.Form.{Form}
-use Rattle.certificate_text.specs.declared.row.Form.TheVariants as form
-use Rattle.certificate_text.specs.Table.{augment_kind}
-use Rattle.certificate_text.specs.declared.row.Slot.{Slot}
-use Rattle.certificate_text.specs.declared.row.Slot.TheVariants.{Must, May}
-use Rattle.certificate_text.specs.Machine.{musts, run}
-use Rattle.certificate_text.specs.Valid.{IsValid, ValidAll}
-use Rattle.certificate_text.specs.Fits.{fits}
-use Rattle.certificate_text.specs.Lines.{body_lines, turned_lines, set_lines}
-use Rattle.certificate_text.specs.Accepts.{Accepts, HasBody}
-use Rattle.certificate_text.proofs.MachineLaws.{musts-run, musts-parts, must-run}
-use Rattle.certificate_text.proofs.FormLaws.{one, several, nothing-left, pass, value-made, impossible-made, path-made, part-made, join-made, tree-made, edge-made, arc-made, set-made, end-made, dual-made, kind-is, valid-split, MadeBy}
-use Rattle.certificate_text.proofs.TurnedLaws.{turned-heads, turned-fit, length-turned}
+use Rattle.certificate_text.specs.declared.row.Piece.{Piece}
+use Rattle.certificate_text.specs.Table.{rows, row_of}
+use Rattle.certificate_text.specs.Taking.{slots, take_lines}
+use Rattle.certificate_text.specs.Valid.{ValidAll}
+use Rattle.certificate_text.specs.Forms.{has_form}
+use Rattle.certificate_text.specs.Lines.{body_lines, lines}
+use Rattle.certificate_text.specs.Gather.{nothing, gather, body_of}
+use Rattle.certificate_text.specs.Accepts.{SomeRow, Accepts, HasBody}
+use Rattle.certificate_text.proofs.RowTests.{is_row, are_rows, rows-are}
+use Rattle.certificate_text.proofs.HeldRows.{Held, held_lines, IsValidHeld, Taken, rows-read, taken-by, held-taken}
+use Rattle.certificate_text.proofs.GatherLaws.{row_content, gather-row, heads-back}
 
--- ---- the ends of rows
+-- ---- from a body to its lines, and back
 
--- a dual with one set
-pub record OneSet (g : GraphValue) (k : DualKind) (ys : List CertLine) : Type 0 where
-  pub side : List Bool
-  pub is : ys ≡ line.Dual k ∷ line.Set side ∷ line.End ∷ []
-  pub long : length side ≡ length g.names
+-- what the body holds in the pieces of its row
+pub record InRow (g : GraphValue) (x : Ask) (b : Body) : Type 0 where
+  pub held : Held g (row_of x b)
+  pub lines_are : held_lines g (row_of x b) held ≡ body_lines g x b
+  pub picked : SomeRow (λ row. row ≡ row_of x b) (rows x)
+  pub back : IsGraph g → body_of g x (row_content g (row_of x b) held nothing) ≡ b
 
-pub one-set : (g : GraphValue) (k : DualKind) (ys : List CertLine) → run (fits g) (Must (form.Dual k) 0 ∷ Must form.Set 0 ∷ Must form.End 0 ∷ []) ys ≡ Some [] → ValidAll g ys → OneSet g k ys
-one-set g k ys e valid =
-    let d = one (Unit {0}) g (form.Dual k) (λ _. line.Dual k) 0 _ ys (dual-made g k) e valid in
-    let s = one (List Bool) g form.Set line.Set 0 _ d.rest (set-made g) d.goes_on d.valid_rest in
-    let z = one (Unit {0}) g form.End (λ _. line.End) 0 _ s.rest (end-made g) s.goes_on s.valid_rest in
-    let n = nothing-left g z.rest z.goes_on in
-    record { side = s.value; is = d.is ∙ ap (λ l. line.Dual k ∷ l) (s.is ∙ ap (λ l. line.Set s.value ∷ l) (z.is ∙ ap (λ l. line.End ∷ l) n)); long = s.valid }
+in-row : (g : GraphValue) (x : Ask) (b : Body) → Belongs x b → IsInRange (length g.names) (length g.lines) b → InRow g x b
+in-row g (ask.Flow s t) (body.Walks value rows cut) belongs range = record { held = (value, (rows, (tt, (cut, (tt, tt))))); lines_are = refl; picked = inl refl; back = λ _. refl }
+in-row g ask.CutTree (body.Tree pairs) belongs range = record { held = (pairs, (tt, tt)); lines_are = refl; picked = inl refl; back = λ _. refl }
+in-row g (ask.Augment k) (body.Edges value pairs sides) belongs range = record { held = (value, (pairs, (tt, (sides, (tt, tt))))); lines_are = refl; picked = inl refl; back = λ _. refl }
+in-row g (ask.AugmentArcs k) (body.Arcs value pairs Entering sides) belongs range = record { held = (value, (pairs, (tt, (sides, (tt, tt))))); lines_are = refl; picked = inl refl; back = λ _. refl }
+in-row g (ask.AugmentArcs k) (body.Arcs value pairs Leaving sides) belongs range = record { held = (value, (pairs, (tt, (sides, (tt, tt))))); lines_are = refl; picked = inr (inl refl); back = λ _. refl }
+in-row g (ask.Arborescences r) (body.Parts value rows (parts.Cut side)) belongs range = record { held = (value, (rows, (tt, (side, (tt, tt))))); lines_are = refl; picked = inl refl; back = λ _. refl }
+in-row g ask.Trees (body.Parts value rows (parts.Partition sides)) belongs range = record { held = (value, (rows, (tt, (sides, (tt, tt))))); lines_are = refl; picked = inl refl; back = λ _. refl }
+in-row g ask.Forests (body.Parts value rows (parts.Induced side)) belongs range = record { held = (value, (rows, (tt, (side, (tt, tt))))); lines_are = refl; picked = inl refl; back = λ _. refl }
+in-row g ask.Forests (body.Parts value rows parts.Nothing) belongs range = record { held = (value, (rows, (tt, (tt, tt)))); lines_are = refl; picked = inr (inl refl); back = λ _. refl }
+in-row g (ask.Orient k) (body.Turned heads) belongs range = record { held = ((heads, range), (tt, tt)); lines_are = refl; picked = inl refl; back = λ is. ap body.Turned (heads-back (length g.names) g.lines heads is.makes.ends range) }
+in-row g (ask.Orient k) (body.Never side) belongs range = record { held = (tt, (tt, (side, (tt, tt)))); lines_are = refl; picked = inr (inl refl); back = λ _. refl }
+in-row g ask.Dijoin (body.Join value numbers sides) belongs range = record { held = (value, (numbers, (tt, (sides, (tt, tt))))); lines_are = refl; picked = inl refl; back = λ _. refl }
+in-row g ask.Dijoin (body.Never side) belongs range = record { held = (tt, (tt, (side, (tt, tt)))); lines_are = refl; picked = inr (inl refl); back = λ _. refl }
+in-row g x b belongs range = absurd belongs
 
--- a dual with any number of sets
-pub record AnySets (g : GraphValue) (k : DualKind) (ys : List CertLine) : Type 0 where
-  pub sides : List (List Bool)
-  pub is : ys ≡ line.Dual k ∷ (set_lines sides ++ line.End ∷ [])
-  pub long : All (λ X. length X ≡ length g.names) sides
+row-takes : (g : GraphValue) (rs : List (List Piece)) (row : List Piece) (ys : List CertLine) → are_rows rs ≡ true → SomeRow (λ r. r ≡ row) rs → (is_row row ≡ true → take_lines (has_form g) (slots (length g.lines) row) ys ≡ Some []) → SomeRow (λ r. take_lines (has_form g) (slots (length g.lines) r) ys ≡ Some []) rs
+row-takes g [] row ys are some runs = some
+row-takes g (r ∷ rs) row ys are (inl e) runs =
+    let here = subst (λ p. is_row p ≡ true) e (and_parts (is_row r) (are_rows rs) are).0 in
+    inl (subst (λ p. take_lines (has_form g) (slots (length g.lines) p) ys ≡ Some []) (sym e) (runs here))
+row-takes g (r ∷ rs) row ys are (inr some) runs = inr (row-takes g rs row ys (and_parts (is_row r) (are_rows rs) are).1 some runs)
 
-pub any-sets : (g : GraphValue) (k : DualKind) (ys : List CertLine) → run (fits g) (Must (form.Dual k) 0 ∷ May form.Set ∷ Must form.End 0 ∷ []) ys ≡ Some [] → ValidAll g ys → AnySets g k ys
-any-sets g k ys e valid =
-    let d = one (Unit {0}) g (form.Dual k) (λ _. line.Dual k) 0 _ ys (dual-made g k) e valid in
-    let s = several (List Bool) g form.Set line.Set _ d.rest (set-made g) d.goes_on d.valid_rest in
-    let z = one (Unit {0}) g form.End (λ _. line.End) 0 _ s.rest (end-made g) s.goes_on s.valid_rest in
-    let n = nothing-left g z.rest z.goes_on in
-    record { sides = s.values; is = d.is ∙ ap (λ l. line.Dual k ∷ l) (s.is ∙ ap (λ l. set_lines s.values ++ l) (z.is ∙ ap (λ l. line.End ∷ l) n)); long = s.valid }
+pub accepted : (g : GraphValue) (x : Ask) (b : Body) → Belongs x b → IsInRange (length g.names) (length g.lines) b → Accepts g x (body_lines g x b)
+accepted g x b belongs range =
+    let i = in-row g x b belongs range in
+    let runs = λ (is : is_row (row_of x b) ≡ true). subst (λ ys. take_lines (has_form g) (slots (length g.lines) (row_of x b)) ys ≡ Some []) i.lines_are (held-taken g (row_of x b) i.held is) in
+    row-takes g (rows x) (row_of x b) (body_lines g x b) (rows-are x) i.picked runs
 
--- a value, and any number of lines of a form
-pub record Valued (A : Type 0) (g : GraphValue) (c : A → CertLine) (left : List Slot) (ys : List CertLine) : Type 0 where
-  pub value : ℕ
-  pub values : List A
-  pub rest : List CertLine
-  pub is : ys ≡ line.Value value ∷ (map c values ++ rest)
-  pub fit : value < 2 ^ 64
-  pub valid : All (λ a. IsValid g (c a)) values
-  pub valid_rest : ValidAll g rest
-  pub goes_on : run (fits g) left rest ≡ Some []
+pub body-back : (g : GraphValue) (x : Ask) (b : Body) → IsGraph g → Belongs x b → IsInRange (length g.names) (length g.lines) b → body_of g x (gather nothing (body_lines g x b)) ≡ b
+body-back g x b is belongs range =
+    let i = in-row g x b belongs range in
+    ap (λ ys. body_of g x (gather nothing ys)) (sym i.lines_are) ∙ ap (body_of g x) (gather-row g (row_of x b) i.held nothing) ∙ i.back is
 
-pub valued : (A : Type 0) (g : GraphValue) (f : Form) (c : A → CertLine) (left : List Slot) (ys : List CertLine) → MadeBy A g f c → run (fits g) (Must form.Value 0 ∷ May f ∷ left) ys ≡ Some [] → ValidAll g ys → Valued A g c left ys
-valued A g f c left ys made e valid =
-    let v = one ℕ g form.Value line.Value 0 (May f ∷ left) ys (value-made g) e valid in
-    let p = several A g f c left v.rest made v.goes_on v.valid_rest in
-    record { value = v.value; values = p.values; rest = p.rest; is = v.is ∙ ap (λ l. line.Value v.value ∷ l) p.is; fit = v.valid; valid = p.valid; valid_rest = p.valid_rest; goes_on = p.goes_on }
+-- the lines of two certificates differ
+pub lines-same : (g : GraphValue) (a b : Cert) → IsGraph g → IsShaped g a → IsShaped g b → lines g a ≡ lines g b → a ≡ b
+lines-same g a b is wa wb e =
+    let ask : a.ask ≡ b.ask = cc in
+    let rest : body_lines g a.ask a.body ≡ body_lines g b.ask b.body = cc in
+    let back = body-back g a.ask a.body is wa.belongs wa.in_range in
+    let other = body-back g b.ask b.body is wb.belongs wb.in_range in
+    let body : a.body ≡ b.body = sym back ∙ (λ i. body_of g (ask i) (gather nothing (rest i))) ∙ other in
+    λ i. record { ask = ask i; body = body i }
 
 -- ---- from lines to a body
 
-flow-body : (g : GraphValue) (s t : ℕ) (ys : List CertLine) → ValidAll g ys → Accepts g (ask.Flow s t) ys → HasBody g (ask.Flow s t) ys
-flow-body g s t ys valid (inl e) =
-    let v = valued (List ℕ) g form.Path line.Path _ ys (path-made g) e valid in
-    let d = one-set g kind.Cut v.rest v.goes_on v.valid_rest in
-    record {
-      body = body.Walks v.value v.values d.side;
-      belongs = tt;
-      in_range = (v.valid, d.long);
-      numbers_fit = v.fit;
-      lines_are = sym (v.is ∙ ap (λ l. line.Value v.value ∷ (map line.Path v.values ++ l)) d.is);
-    }
-flow-body g s t ys valid (inr e) = absurd e
+abbrev EachRow : (List Piece → Type 0) → List (List Piece) → Type 0
+EachRow P [] = Unit {0}
+EachRow P (row ∷ rows) = P row × EachRow P rows
 
-cuttree-body : (g : GraphValue) (ys : List CertLine) → ValidAll g ys → Accepts g ask.CutTree ys → HasBody g ask.CutTree ys
-cuttree-body g ys valid (inl e) =
-    let p = several (ℕ × ℕ × ℕ) g form.Tree (λ p. line.Tree p.0 p.1 p.2) _ ys (tree-made g) e valid in
-    let z = one (Unit {0}) g form.End (λ _. line.End) 0 _ p.rest (end-made g) p.goes_on p.valid_rest in
-    let n = nothing-left g z.rest z.goes_on in
-    record {
-      body = body.Tree p.values;
-      belongs = tt;
-      in_range = λ k d l. ((p.valid k d l).0, (p.valid k d l).1);
-      numbers_fit = λ k d l. (p.valid k d l).2;
-      lines_are = sym (p.is ∙ ap (λ l. map (λ p. line.Tree p.0 p.1 p.2) p.values ++ l) (z.is ∙ ap (λ l. line.End ∷ l) n));
-    }
-cuttree-body g ys valid (inr e) = absurd e
+-- how a body is made of what a row holds
+abbrev Makes : GraphValue → Ask → List CertLine → List Piece → Type 0
+Makes g x ys row = (held : Held g row) → IsValidHeld g row held → ys ≡ held_lines g row held → HasBody g x ys
 
-augment-body : (g : GraphValue) (k : ℕ) (ys : List CertLine) → ValidAll g ys → Accepts g (ask.Augment k) ys → HasBody g (ask.Augment k) ys
-augment-body g k ys valid (inl e) =
-    let v = valued (ℕ × ℕ) g form.Edge (λ p. line.Edge p.0 p.1) _ ys (edge-made g) e valid in
-    let d = any-sets g (augment_kind k) v.rest v.goes_on v.valid_rest in
-    record {
-      body = body.Edges v.value v.values d.sides;
-      belongs = tt;
-      in_range = (v.valid, d.long);
-      numbers_fit = v.fit;
-      lines_are = sym (v.is ∙ ap (λ l. line.Value v.value ∷ (map (λ p. line.Edge p.0 p.1) v.values ++ l)) d.is);
-    }
-augment-body g k ys valid (inr e) = absurd e
+by-row : (g : GraphValue) (x : Ask) (ys : List CertLine) (rs : List (List Piece)) → EachRow (Makes g x ys) rs → SomeRow (λ row. Taken g row ys) rs → HasBody g x ys
+by-row g x ys [] each some = absurd some
+by-row g x ys (row ∷ rs) each (inl r) = each.0 r.held r.valid r.is
+by-row g x ys (row ∷ rs) each (inr some) = by-row g x ys rs each.1 some
 
-augment_arcs-body : (g : GraphValue) (k : ℕ) (ys : List CertLine) → ValidAll g ys → Accepts g (ask.AugmentArcs k) ys → HasBody g (ask.AugmentArcs k) ys
-augment_arcs-body g k ys valid (inl e) =
-    let v = valued (ℕ × ℕ) g form.Arc (λ p. line.Arc p.0 p.1) _ ys (arc-made g) e valid in
-    let d = any-sets g kind.In v.rest v.goes_on v.valid_rest in
-    record {
-      body = body.Arcs v.value v.values Entering d.sides;
-      belongs = tt;
-      in_range = (v.valid, d.long);
-      numbers_fit = v.fit;
-      lines_are = sym (v.is ∙ ap (λ l. line.Value v.value ∷ (map (λ p. line.Arc p.0 p.1) v.values ++ l)) d.is);
-    }
-augment_arcs-body g k ys valid (inr (inl e)) =
-    let v = valued (ℕ × ℕ) g form.Arc (λ p. line.Arc p.0 p.1) _ ys (arc-made g) e valid in
-    let d = any-sets g kind.Out v.rest v.goes_on v.valid_rest in
-    record {
-      body = body.Arcs v.value v.values Leaving d.sides;
-      belongs = tt;
-      in_range = (v.valid, d.long);
-      numbers_fit = v.fit;
-      lines_are = sym (v.is ∙ ap (λ l. line.Value v.value ∷ (map (λ p. line.Arc p.0 p.1) v.values ++ l)) d.is);
-    }
-augment_arcs-body g k ys valid (inr (inr e)) = absurd e
+row-body : (g : GraphValue) (x : Ask) (ys : List CertLine) → EachRow (Makes g x ys) (rows x)
+row-body g (ask.Flow s t) ys = (λ (value, (rows, (_, (cut, _)))) (fit, (each, (_, (long, _)))) is. record { body = body.Walks value rows cut; belongs = tt; in_range = (each, long); numbers_fit = fit; lines_are = sym is }, tt)
+row-body g ask.CutTree ys = (λ (pairs, _) (each, _) is. record { body = body.Tree pairs; belongs = tt; in_range = λ k d l. ((each k d l).0, (each k d l).1); numbers_fit = λ k d l. (each k d l).2; lines_are = sym is }, tt)
+row-body g (ask.Augment k) ys = (λ (value, (pairs, (_, (sides, _)))) (fit, (each, (_, (long, _)))) is. record { body = body.Edges value pairs sides; belongs = tt; in_range = (each, long); numbers_fit = fit; lines_are = sym is }, tt)
+row-body g (ask.AugmentArcs k) ys = (
+  λ (value, (pairs, (_, (sides, _)))) (fit, (each, (_, (long, _)))) is. record { body = body.Arcs value pairs Entering sides; belongs = tt; in_range = (each, long); numbers_fit = fit; lines_are = sym is },
+  (λ (value, (pairs, (_, (sides, _)))) (fit, (each, (_, (long, _)))) is. record { body = body.Arcs value pairs Leaving sides; belongs = tt; in_range = (each, long); numbers_fit = fit; lines_are = sym is }, tt),
+)
+row-body g (ask.Arborescences root) ys = (λ (value, (rows, (_, (side, _)))) (fit, (each, (_, (long, _)))) is. record { body = body.Parts value rows (parts.Cut side); belongs = tt; in_range = (each, long); numbers_fit = fit; lines_are = sym is }, tt)
+row-body g ask.Trees ys = (λ (value, (rows, (_, (sides, _)))) (fit, (each, (_, (long, _)))) is. record { body = body.Parts value rows (parts.Partition sides); belongs = tt; in_range = (each, long); numbers_fit = fit; lines_are = sym is }, tt)
+row-body g ask.Forests ys = (
+  λ (value, (rows, (_, (side, _)))) (fit, (each, (_, (long, _)))) is. record { body = body.Parts value rows (parts.Induced side); belongs = tt; in_range = (each, long); numbers_fit = fit; lines_are = sym is },
+  (λ (value, (rows, _)) (fit, (each, _)) is. record { body = body.Parts value rows parts.Nothing; belongs = tt; in_range = (each, tt); numbers_fit = fit; lines_are = sym is }, tt),
+)
+row-body g (ask.Orient k) ys = (
+  λ (turned, _) _ is. record { body = body.Turned turned.0; belongs = tt; in_range = turned.1; numbers_fit = tt; lines_are = sym is },
+  (λ (_, (_, (side, _))) (_, (_, (long, _))) is. record { body = body.Never side; belongs = tt; in_range = long; numbers_fit = tt; lines_are = sym is }, tt),
+)
+row-body g ask.Dijoin ys = (
+  λ (value, (numbers, (_, (sides, _)))) (fit, (each, (_, (long, _)))) is. record { body = body.Join value numbers sides; belongs = tt; in_range = (each, long); numbers_fit = fit; lines_are = sym is },
+  (λ (_, (_, (side, _))) (_, (_, (long, _))) is. record { body = body.Never side; belongs = tt; in_range = long; numbers_fit = tt; lines_are = sym is }, tt),
+)
 
-arborescences-body : (g : GraphValue) (r : ℕ) (ys : List CertLine) → ValidAll g ys → Accepts g (ask.Arborescences r) ys → HasBody g (ask.Arborescences r) ys
-arborescences-body g r ys valid (inl e) =
-    let v = valued (List ℕ) g form.Part line.Part _ ys (part-made g) e valid in
-    let d = one-set g kind.Cut v.rest v.goes_on v.valid_rest in
-    record {
-      body = body.Parts v.value v.values (parts.Cut d.side);
-      belongs = tt;
-      in_range = (v.valid, d.long);
-      numbers_fit = v.fit;
-      lines_are = sym (v.is ∙ ap (λ l. line.Value v.value ∷ (map line.Part v.values ++ l)) d.is);
-    }
-arborescences-body g r ys valid (inr e) = absurd e
-
-trees-body : (g : GraphValue) (ys : List CertLine) → ValidAll g ys → Accepts g ask.Trees ys → HasBody g ask.Trees ys
-trees-body g ys valid (inl e) =
-    let v = valued (List ℕ) g form.Part line.Part _ ys (part-made g) e valid in
-    let d = any-sets g kind.Partition v.rest v.goes_on v.valid_rest in
-    record {
-      body = body.Parts v.value v.values (parts.Partition d.sides);
-      belongs = tt;
-      in_range = (v.valid, d.long);
-      numbers_fit = v.fit;
-      lines_are = sym (v.is ∙ ap (λ l. line.Value v.value ∷ (map line.Part v.values ++ l)) d.is);
-    }
-trees-body g ys valid (inr e) = absurd e
-
-forests-body : (g : GraphValue) (ys : List CertLine) → ValidAll g ys → Accepts g ask.Forests ys → HasBody g ask.Forests ys
-forests-body g ys valid (inl e) =
-    let v = valued (List ℕ) g form.Part line.Part _ ys (part-made g) e valid in
-    let d = one-set g kind.Induced v.rest v.goes_on v.valid_rest in
-    record {
-      body = body.Parts v.value v.values (parts.Induced d.side);
-      belongs = tt;
-      in_range = (v.valid, d.long);
-      numbers_fit = v.fit;
-      lines_are = sym (v.is ∙ ap (λ l. line.Value v.value ∷ (map line.Part v.values ++ l)) d.is);
-    }
-forests-body g ys valid (inr (inl e)) =
-    let v = valued (List ℕ) g form.Part line.Part _ ys (part-made g) e valid in
-    let d = one (Unit {0}) g (form.Dual kind.Nothing) (λ _. line.Dual kind.Nothing) 0 _ v.rest (dual-made g kind.Nothing) v.goes_on v.valid_rest in
-    let z = one (Unit {0}) g form.End (λ _. line.End) 0 _ d.rest (end-made g) d.goes_on d.valid_rest in
-    let n = nothing-left g z.rest z.goes_on in
-    record {
-      body = body.Parts v.value v.values parts.Nothing;
-      belongs = tt;
-      in_range = (v.valid, tt);
-      numbers_fit = v.fit;
-      lines_are = sym (v.is ∙ ap (λ l. line.Value v.value ∷ (map line.Part v.values ++ l)) (d.is ∙ ap (λ l. line.Dual kind.Nothing ∷ l) (z.is ∙ ap (λ l. line.End ∷ l) n)));
-    }
-forests-body g ys valid (inr (inr e)) = absurd e
-
-orient-body : (g : GraphValue) (k : ℕ) (ys : List CertLine) → ValidAll g ys → Accepts g (ask.Orient k) ys → HasBody g (ask.Orient k) ys
-orient-body g k ys valid (inl e) =
-    let a = musts-parts (fits g) form.Turned 0 (length g.lines) (Must form.End 0 ∷ []) ys e in
-    let h = turned-heads g 0 g.lines a.front refl a.long a.fit in
-    let rest_valid = (valid-split g a.front a.rest (subst (ValidAll g) a.is valid)).1 in
-    let z = one (Unit {0}) g form.End (λ _. line.End) 0 _ a.rest (end-made g) a.goes_on rest_valid in
-    let n = nothing-left g z.rest z.goes_on in
-    record {
-      body = body.Turned h.heads;
-      belongs = tt;
-      in_range = h.long;
-      numbers_fit = tt;
-      lines_are = sym (a.is ∙ (λ i. h.is i ++ (z.is ∙ ap (λ l. line.End ∷ l) n) i));
-    }
-orient-body g k ys valid (inr (inl e)) =
-    let v = one (Unit {0}) g form.Impossible (λ _. line.Impossible) 0 _ ys (impossible-made g) e valid in
-    let d = one-set g kind.Cut v.rest v.goes_on v.valid_rest in
-    record {
-      body = body.Never d.side;
-      belongs = tt;
-      in_range = d.long;
-      numbers_fit = tt;
-      lines_are = sym (v.is ∙ ap (λ l. line.Impossible ∷ l) d.is);
-    }
-orient-body g k ys valid (inr (inr e)) = absurd e
-
-dijoin-body : (g : GraphValue) (ys : List CertLine) → ValidAll g ys → Accepts g ask.Dijoin ys → HasBody g ask.Dijoin ys
-dijoin-body g ys valid (inl e) =
-    let v = one ℕ g form.Value line.Value 0 _ ys (value-made g) e valid in
-    let j = one (List ℕ) g form.Join line.Join 0 _ v.rest (join-made g) v.goes_on v.valid_rest in
-    let d = any-sets g kind.Dicuts j.rest j.goes_on j.valid_rest in
-    record {
-      body = body.Join v.value j.value d.sides;
-      belongs = tt;
-      in_range = (j.valid, d.long);
-      numbers_fit = v.valid;
-      lines_are = sym (v.is ∙ ap (λ l. line.Value v.value ∷ l) (j.is ∙ ap (λ l. line.Join j.value ∷ l) d.is));
-    }
-dijoin-body g ys valid (inr (inl e)) =
-    let v = one (Unit {0}) g form.Impossible (λ _. line.Impossible) 0 _ ys (impossible-made g) e valid in
-    let d = one-set g kind.Dicut v.rest v.goes_on v.valid_rest in
-    record {
-      body = body.Never d.side;
-      belongs = tt;
-      in_range = d.long;
-      numbers_fit = tt;
-      lines_are = sym (v.is ∙ ap (λ l. line.Impossible ∷ l) d.is);
-    }
-dijoin-body g ys valid (inr (inr e)) = absurd e
-
-pub has-body : (g : GraphValue) (ask : Ask) (ys : List CertLine) → ValidAll g ys → Accepts g ask ys → HasBody g ask ys
-has-body g (ask.Flow s t) ys = flow-body g s t ys
-has-body g ask.CutTree ys = cuttree-body g ys
-has-body g (ask.Augment k) ys = augment-body g k ys
-has-body g (ask.AugmentArcs k) ys = augment_arcs-body g k ys
-has-body g (ask.Arborescences r) ys = arborescences-body g r ys
-has-body g ask.Trees ys = trees-body g ys
-has-body g ask.Forests ys = forests-body g ys
-has-body g (ask.Orient k) ys = orient-body g k ys
-has-body g ask.Dijoin ys = dijoin-body g ys
-
--- ---- from a body to its lines
-
-pass_values : (A : Type 0) (g : GraphValue) (f : Form) (c : A → CertLine) (left : List Slot) (n : ℕ) (values : List A) (y : CertLine) (ys : List CertLine) → ((a : A) → fits g f 0 (c a) ≡ true) → fits g f 0 y ≡ false → run (fits g) left (y ∷ ys) ≡ Some []
-    → run (fits g) (Must form.Value 0 ∷ May f ∷ left) (line.Value n ∷ (map c values ++ y ∷ ys)) ≡ Some []
-pass_values A g f c left n values y ys each unlike e = pass A g f c left values y ys each unlike ∙ e
-
-pass_sets : (g : GraphValue) (k : DualKind) (sides : List (List Bool)) → run (fits g) (Must (form.Dual k) 0 ∷ May form.Set ∷ Must form.End 0 ∷ []) (line.Dual k ∷ (set_lines sides ++ line.End ∷ [])) ≡ Some []
-pass_sets g k sides =
-    must-run (fits g) (form.Dual k) 0 (May form.Set ∷ Must form.End 0 ∷ []) (line.Dual k) (set_lines sides ++ line.End ∷ []) (kind-is k)
-    ∙ pass (List Bool) g form.Set line.Set (Must form.End 0 ∷ []) sides line.End [] (λ X. refl) refl
-
-pub accepted : (g : GraphValue) (ask : Ask) (b : Body) → Belongs ask b → IsInRange (length g.names) (length g.lines) b → Accepts g ask (body_lines g ask b)
-accepted g (ask.Flow s t) (body.Walks value rows cut) belongs range = inl (pass_values (List ℕ) g form.Path line.Path _ value rows (line.Dual kind.Cut) (line.Set cut ∷ line.End ∷ []) (λ js. refl) refl refl)
-accepted g ask.CutTree (body.Tree pairs) belongs range = inl (pass (ℕ × ℕ × ℕ) g form.Tree (λ p. line.Tree p.0 p.1 p.2) (Must form.End 0 ∷ []) pairs line.End [] (λ p. refl) refl)
-accepted g (ask.Augment k) (body.Edges value pairs sides) belongs range =
-    inl (pass_values (ℕ × ℕ) g form.Edge (λ p. line.Edge p.0 p.1) _ value pairs (line.Dual (augment_kind k)) (set_lines sides ++ line.End ∷ []) (λ p. refl) refl (pass_sets g (augment_kind k) sides))
-accepted g (ask.AugmentArcs k) (body.Arcs value pairs Entering sides) belongs range =
-    inl (pass_values (ℕ × ℕ) g form.Arc (λ p. line.Arc p.0 p.1) _ value pairs (line.Dual kind.In) (set_lines sides ++ line.End ∷ []) (λ p. refl) refl (pass_sets g kind.In sides))
-accepted g (ask.AugmentArcs k) (body.Arcs value pairs Leaving sides) belongs range =
-    inr (inl (pass_values (ℕ × ℕ) g form.Arc (λ p. line.Arc p.0 p.1) _ value pairs (line.Dual kind.Out) (set_lines sides ++ line.End ∷ []) (λ p. refl) refl (pass_sets g kind.Out sides)))
-accepted g (ask.Arborescences r) (body.Parts value rows (parts.Cut side)) belongs range = inl (pass_values (List ℕ) g form.Part line.Part _ value rows (line.Dual kind.Cut) (line.Set side ∷ line.End ∷ []) (λ js. refl) refl refl)
-accepted g ask.Trees (body.Parts value rows (parts.Partition sides)) belongs range = inl (pass_values (List ℕ) g form.Part line.Part _ value rows (line.Dual kind.Partition) (set_lines sides ++ line.End ∷ []) (λ js. refl) refl (pass_sets g kind.Partition sides))
-accepted g ask.Forests (body.Parts value rows (parts.Induced side)) belongs range = inl (pass_values (List ℕ) g form.Part line.Part _ value rows (line.Dual kind.Induced) (line.Set side ∷ line.End ∷ []) (λ js. refl) refl refl)
-accepted g ask.Forests (body.Parts value rows parts.Nothing) belongs range = inr (inl (pass_values (List ℕ) g form.Part line.Part _ value rows (line.Dual kind.Nothing) (line.End ∷ []) (λ js. refl) refl refl))
-accepted g (ask.Orient k) (body.Turned heads) belongs range =
-    let xs = turned_lines g.lines heads in
-    let P : ℕ → Type 0 = λ m. run (fits g) (musts form.Turned 0 m ++ Must form.End 0 ∷ []) (xs ++ line.End ∷ []) ≡ Some [] in
-    inl (subst P (length-turned g.lines heads range) (musts-run (fits g) form.Turned 0 (Must form.End 0 ∷ []) xs (line.End ∷ []) (turned-fit g 0 g.lines heads refl)))
-accepted g (ask.Orient k) (body.Never side) belongs range = inr (inl refl)
-accepted g ask.Dijoin (body.Join value numbers sides) belongs range = inl (pass_sets g kind.Dicuts sides)
-accepted g ask.Dijoin (body.Never side) belongs range = inr (inl refl)
-accepted g ask b belongs range = absurd belongs
+pub has-body : (g : GraphValue) (x : Ask) (ys : List CertLine) → ValidAll g ys → Accepts g x ys → HasBody g x ys
+has-body g x ys valid some = by-row g x ys (rows x) (row-body g x ys) (taken-by g (rows x) ys (rows-read x) some valid)

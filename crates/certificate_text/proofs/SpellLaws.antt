@@ -9,7 +9,7 @@ use Rattle.std.proofs.lemmas.List.Elements.{All-head, All-tail}
 use Rattle.graph_core.specs.Graph.{GraphValue, IsGraph}
 use Rattle.graph_core.specs.Name.{IsName}
 use Rattle.problem_defs.specs.Ask.{misfit_of, KIsInRange}
-use Rattle.problem_defs.proofs.Suited.{flow_suits, arborescences_suits}
+use Rattle.problem_defs.specs.Suited.{flow_suits, arborescences_suits}
 use Rattle.problem_defs.specs.declared.ask.Ask.{Ask}
 use Rattle.problem_defs.specs.declared.ask.Ask.TheVariants as ask
 use Rattle.certificate_text.specs.declared.line.CertLine.{CertLine}
@@ -17,7 +17,7 @@ use Rattle.certificate_text.specs.declared.line.CertLine.TheVariants as line
 use Rattle.certificate_text.specs.declared.line.DualKind.{DualKind}
 use Rattle.certificate_text.specs.declared.line.DualKind.TheVariants as kind
 use Rattle.certificate_text.specs.Keywords.{NamesNodes}
-use Rattle.certificate_text.specs.Words.{words, spelled, names_in, name_of, numbers, kind_word, ask_words}
+use Rattle.certificate_text.specs.Words.{words, spelled, names_in, name_of, numbers, dual_word, ask_words}
 use Rattle.certificate_text.specs.Valid.{IsValid}
 use Rattle.certificate_text.proofs.WordLaws.{ArePlain, is_ink, split-join, join-no_feed, no_feed, decimal-ink, name-ink}
 
@@ -122,14 +122,8 @@ behind a c more others e = cc
 
 pub names-nodes : (g : GraphValue) (x : Ask) → misfit_of g x ≡ None → NamesNodes (length g.names) x
 names-nodes g (ask.Flow s t) m = flow-nodes g s t m
-names-nodes g ask.CutTree m = tt
-names-nodes g (ask.Augment k) m = tt
-names-nodes g (ask.AugmentArcs k) m = tt
 names-nodes g (ask.Arborescences r) m = root-node g r m
-names-nodes g ask.Trees m = tt
-names-nodes g ask.Forests m = tt
-names-nodes g (ask.Orient k) m = tt
-names-nodes g ask.Dijoin m = tt
+names-nodes g x m = tt
 
 pub ask-same : (g : GraphValue) (x y : Ask) → IsGraph g → KIsInRange x → NamesNodes (length g.names) x → KIsInRange y → NamesNodes (length g.names) y → ask_words g x ≡ ask_words g y → x ≡ y
 ask-same g (ask.Flow s t) (ask.Flow u v) is k m l n e =
@@ -146,18 +140,18 @@ ask-same g (ask.Orient j) (ask.Orient i) is k m l n e = ap ask.Orient (k-same j 
 ask-same g ask.Dijoin ask.Dijoin is k m l n e = refl
 ask-same g x y is k m l n e = absurd (clash (head_word (ask_words g x)) (head_word (ask_words g y)) refl (ap head_word e))
 
-kind-word-same : (a b : DualKind) → kind_word a ≡ kind_word b → a ≡ b
-kind-word-same kind.Cut kind.Cut e = refl
-kind-word-same kind.Components kind.Components e = refl
-kind-word-same kind.Subpartition kind.Subpartition e = refl
-kind-word-same kind.In kind.In e = refl
-kind-word-same kind.Out kind.Out e = refl
-kind-word-same kind.Partition kind.Partition e = refl
-kind-word-same kind.Induced kind.Induced e = refl
-kind-word-same kind.Nothing kind.Nothing e = refl
-kind-word-same kind.Dicuts kind.Dicuts e = refl
-kind-word-same kind.Dicut kind.Dicut e = refl
-kind-word-same a b e = absurd (clash (kind_word a) (kind_word b) refl e)
+dual-word-same : (a b : DualKind) → dual_word a ≡ dual_word b → a ≡ b
+dual-word-same kind.Cut kind.Cut e = refl
+dual-word-same kind.Components kind.Components e = refl
+dual-word-same kind.Subpartition kind.Subpartition e = refl
+dual-word-same kind.In kind.In e = refl
+dual-word-same kind.Out kind.Out e = refl
+dual-word-same kind.Partition kind.Partition e = refl
+dual-word-same kind.Induced kind.Induced e = refl
+dual-word-same kind.Nothing kind.Nothing e = refl
+dual-word-same kind.Dicuts kind.Dicuts e = refl
+dual-word-same kind.Dicut kind.Dicut e = refl
+dual-word-same a b e = absurd (clash (dual_word a) (dual_word b) refl e)
 
 pub words-same : (g : GraphValue) (x y : CertLine) → IsGraph g → IsValid g x → IsValid g y → words g x ≡ words g y → x ≡ y
 words-same g line.Title line.Title is a b e = refl
@@ -180,7 +174,7 @@ words-same g (line.Arc u v) (line.Arc x y) is a b e =
     let p = name-same g u x is a.0 b.0 (second _ _ _ _ _ _ e) in
     let q = name-same g v y is a.1 b.1 (third _ _ _ _ _ _ _ _ e) in
     λ i. line.Arc (p i) (q i)
-words-same g (line.Dual x) (line.Dual y) is a b e = ap line.Dual (kind-word-same x y (second _ _ _ _ _ _ e))
+words-same g (line.Dual x) (line.Dual y) is a b e = ap line.Dual (dual-word-same x y (second _ _ _ _ _ _ e))
 words-same g (line.Set X) (line.Set Y) is a b e = ap line.Set (sides-same g.names X Y is.makes.distinct a b (behind _ _ _ _ e))
 words-same g line.End line.End is a b e = refl
 words-same g x y is a b e = absurd (clash (head_word (words g x)) (head_word (words g y)) refl (ap head_word e))
@@ -207,26 +201,15 @@ k-plain k a = decimal-ink k (omega (arith, a))
 
 ask-plain : (g : GraphValue) (x : Ask) → All IsName g.names → KIsInRange x → misfit_of g x ≡ None → ArePlain (ask_words g x)
 ask-plain g (ask.Flow s t) named k m = let a = flow-nodes g s t m in (refl, (name-plain g s named a.0, (name-plain g t named a.1, tt)))
-ask-plain g ask.CutTree named k m = (refl, tt)
+ask-plain g (ask.Arborescences r) named k m = (refl, (name-plain g r named (root-node g r m), tt))
 ask-plain g (ask.Augment j) named k m = (refl, (k-plain j k.1, tt))
 ask-plain g (ask.AugmentArcs j) named k m = (refl, (k-plain j k.1, tt))
-ask-plain g (ask.Arborescences r) named k m = (refl, (name-plain g r named (root-node g r m), tt))
-ask-plain g ask.Trees named k m = (refl, tt)
-ask-plain g ask.Forests named k m = (refl, tt)
 ask-plain g (ask.Orient j) named k m = (refl, (k-plain j k.1, tt))
-ask-plain g ask.Dijoin named k m = (refl, tt)
+ask-plain g x named k m = (refl, tt)
 
-kind-plain : (a : DualKind) → list_all is_ink (kind_word a) ≡ true
+kind-plain : (a : DualKind) → list_all is_ink (dual_word a) ≡ true
 kind-plain kind.Cut = refl
-kind-plain kind.Components = refl
-kind-plain kind.Subpartition = refl
-kind-plain kind.In = refl
-kind-plain kind.Out = refl
-kind-plain kind.Partition = refl
-kind-plain kind.Induced = refl
-kind-plain kind.Nothing = refl
-kind-plain kind.Dicuts = refl
-kind-plain kind.Dicut = refl
+kind-plain k = refl
 
 pub words-plain : (g : GraphValue) (x : CertLine) → IsGraph g → IsValid g x → ArePlain (words g x)
 words-plain g line.Title is a = (refl, (refl, tt))

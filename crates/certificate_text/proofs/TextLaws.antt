@@ -1,28 +1,32 @@
 -- Texts as bytes: one certificate at the front, and the least bad line.
-use Rattle.std.proofs.Common.{◌≡◌, ℕ, Bool, true, false, List, [], ◌∷◌, ◌++◌, map, length, refl, sym, ap, ◌∙◌, append_assoc, append-nil, true≢false}
+use Rattle.std.proofs.Common.{◌≡◌, ◌≢◌, ℕ, Bool, true, false, List, [], ◌∷◌, ◌++◌, map, length, refl, sym, ap, ◌∙◌, append_assoc, append-nil, true≢false}
+use Rattle.std.specs.List.{flat_map}
 use Rattle.std.proofs.lemmas.List.{append_cancel_left}
 use Rattle.graph_core.specs.Graph.{GraphValue, IsGraph}
 use Rattle.problem_defs.specs.declared.ask.Ask.{Ask}
+use Rattle.problem_defs.specs.declared.ask.Ask.TheVariants as ask
 use Rattle.problem_defs.specs.declared.cert.Body.{Body}
-use Rattle.problem_defs.specs.declared.cert.Body.TheVariants as body
-use Rattle.problem_defs.specs.declared.cert.PartsDual.{PartsDual}
-use Rattle.problem_defs.specs.declared.cert.PartsDual.TheVariants as parts
 use Rattle.problem_defs.specs.declared.cert.Cert.{Cert}
 use Rattle.graph_core.specs.declared.graph.Line.{Line}
 use Rattle.certificate_text.specs.declared.line.CertLine.{CertLine}
 use Rattle.certificate_text.specs.declared.line.CertLine.TheVariants as line
-use Rattle.certificate_text.specs.declared.line.DualKind.TheVariants as kind
+use Rattle.certificate_text.specs.declared.row.Form.{Form}
+use Rattle.certificate_text.specs.declared.row.Form.TheVariants as form
+use Rattle.certificate_text.specs.declared.row.Piece.{Piece}
+use Rattle.certificate_text.specs.declared.row.Piece.TheVariants.{One, Any, EachLine}
+use Rattle.certificate_text.specs.Table.{rows, pick, is_second, row_of}
 use Rattle.certificate_text.specs.Words.{spelled}
 use Rattle.certificate_text.specs.Valid.{ValidAll}
-use Rattle.certificate_text.specs.Lines.{body_lines, lines, turned_lines, set_lines, parts_lines, way_kind, edges_kind, never_kind}
+use Rattle.certificate_text.specs.Lines.{lines, turned_lines, form_lines, form_of, rows_in, tree_in, pairs_in, heads_in, sides_in}
 use Rattle.problem_defs.specs.Shaped.{IsShaped}
-use Rattle.certificate_text.specs.Allowed.{is_end, NoEnd}
+use Rattle.certificate_text.specs.MayBegin.{is_end, NoEnd}
 use Rattle.certificate_text.specs.Front.{IsAtFront}
 use Rattle.certificate_text.specs.Text.{unlines, text}
 use Rattle.certificate_text.specs.BadLine.{whole_lines}
 use Rattle.certificate_text.proofs.WordLaws.{NoFeeds, whole-unlines}
 use Rattle.certificate_text.proofs.SpellLaws.{spelled-same, spelled-no_feed}
-use Rattle.certificate_text.proofs.GatherLaws.{lines-same}
+use Rattle.certificate_text.proofs.RowLaws.{lines-same}
+use Rattle.certificate_text.proofs.RowTests.{is_inner, is_row, row-parts}
 use Rattle.certificate_text.proofs.ValidLaws.{valid-lines}
 
 -- ---- the last line alone is the end
@@ -52,33 +56,46 @@ after x xs e ends = record { front = x ∷ ends.front; is = ap (λ l. x ∷ l) e
 behind : (xs ys : List CertLine) → NoEnd xs → Ends ys → Ends (xs ++ ys)
 behind xs ys none ends = record { front = xs ++ ends.front; is = ap (λ l. xs ++ l) ends.is ∙ sym (append_assoc xs ends.front (line.End ∷ [])); none = no_end-join xs ends.front none ends.none }
 
-only_end : Ends (line.End ∷ [])
-only_end = record { front = []; is = refl; none = tt }
+-- ---- a row has its end at its end alone
 
-ends-sets : (sides : List (List Bool)) → Ends (set_lines sides ++ line.End ∷ [])
-ends-sets sides = behind (set_lines sides) (line.End ∷ []) (no_end-map (List Bool) line.Set (λ X. refl) sides) only_end
+-- the row of a body
+row-is : (x : Ask) (second : Bool) → is_row (pick (rows x) second) ≡ true
+row-is (ask.Flow s t) true = refl
+row-is (ask.Flow s t) false = refl
+row-is x true = refl
+row-is x false = refl
 
-ends-one : (X : List Bool) → Ends (line.Set X ∷ line.End ∷ [])
-ends-one X = after (line.Set X) (line.End ∷ []) refl only_end
+no_end-form : (g : GraphValue) (b : Body) (f : Form) → f ≢ form.End → NoEnd (form_lines g b f)
+no_end-form g b form.Path other = no_end-map (List ℕ) line.Path (λ p. refl) (rows_in b)
+no_end-form g b form.Part other = no_end-map (List ℕ) line.Part (λ p. refl) (rows_in b)
+no_end-form g b form.Join other = no_end-map (List ℕ) line.Join (λ p. refl) (rows_in b)
+no_end-form g b form.Tree other = no_end-map (ℕ × ℕ × ℕ) (λ p. line.Tree p.0 p.1 p.2) (λ p. refl) (tree_in b)
+no_end-form g b form.Edge other = no_end-map (ℕ × ℕ) (λ p. line.Edge p.0 p.1) (λ p. refl) (pairs_in b)
+no_end-form g b form.Arc other = no_end-map (ℕ × ℕ) (λ p. line.Arc p.0 p.1) (λ p. refl) (pairs_in b)
+no_end-form g b form.Turned other = no_end-turned g.lines (heads_in b)
+no_end-form g b form.Set other = no_end-map (List Bool) line.Set (λ X. refl) (sides_in b)
+no_end-form g b form.End other = absurd (other refl)
+no_end-form g b f other = (refl, tt)
 
-ends-dual : (dual : PartsDual) → Ends (parts_lines dual)
-ends-dual (parts.Cut X) = after (line.Dual kind.Cut) _ refl (ends-one X)
-ends-dual (parts.Partition sides) = after (line.Dual kind.Partition) _ refl (ends-sets sides)
-ends-dual (parts.Induced X) = after (line.Dual kind.Induced) _ refl (ends-one X)
-ends-dual parts.Nothing = after (line.Dual kind.Nothing) _ refl only_end
+-- an inner piece is no end
+inner-form : (piece : Piece) → is_inner piece ≡ true → form_of piece ≢ form.End
+inner-form (One form.End) inner = absurd (true≢false (sym inner))
+inner-form (Any form.End) inner = absurd (true≢false (sym inner))
+inner-form (EachLine form.End) inner = absurd (true≢false (sym inner))
+inner-form (One f) inner = λ e. cc
+inner-form (Any f) inner = λ e. cc
+inner-form (EachLine f) inner = λ e. cc
 
-ends-body : (g : GraphValue) (x : Ask) (b : Body) → Ends (body_lines g x b)
-ends-body g x (body.Tree pairs) = behind (map (λ p. line.Tree p.0 p.1 p.2) pairs) _ (no_end-map (ℕ × ℕ × ℕ) (λ p. line.Tree p.0 p.1 p.2) (λ p. refl) pairs) only_end
-ends-body g x (body.Turned heads) = behind (turned_lines g.lines heads) _ (no_end-turned g.lines heads) only_end
-ends-body g x (body.Walks value rows cut) = after (line.Value value) _ refl (behind (map line.Path rows) _ (no_end-map (List ℕ) line.Path (λ p. refl) rows) (after (line.Dual kind.Cut) _ refl (ends-one cut)))
-ends-body g x (body.Edges value pairs sides) = after (line.Value value) _ refl (behind (map (λ p. line.Edge p.0 p.1) pairs) _ (no_end-map (ℕ × ℕ) (λ p. line.Edge p.0 p.1) (λ p. refl) pairs) (after (line.Dual (edges_kind x)) _ refl (ends-sets sides)))
-ends-body g x (body.Arcs value pairs way sides) = after (line.Value value) _ refl (behind (map (λ p. line.Arc p.0 p.1) pairs) _ (no_end-map (ℕ × ℕ) (λ p. line.Arc p.0 p.1) (λ p. refl) pairs) (after (line.Dual (way_kind way)) _ refl (ends-sets sides)))
-ends-body g x (body.Parts value rows dual) = after (line.Value value) _ refl (behind (map line.Part rows) _ (no_end-map (List ℕ) line.Part (λ p. refl) rows) (ends-dual dual))
-ends-body g x (body.Join value numbers sides) = after (line.Value value) _ refl (after (line.Join numbers) _ refl (after (line.Dual kind.Dicuts) _ refl (ends-sets sides)))
-ends-body g x (body.Never side) = after line.Impossible _ refl (after (line.Dual (never_kind x)) _ refl (ends-one side))
+ends-row : (g : GraphValue) (b : Body) (row : List Piece) → is_row row ≡ true → Ends (flat_map (λ piece. form_lines g b (form_of piece)) row)
+ends-row g b [] is = absurd (true≢false (sym is))
+ends-row g b (One form.End ∷ []) is = record { front = []; is = refl; none = tt }
+ends-row g b (piece ∷ []) is = absurd (true≢false (sym is))
+ends-row g b (piece ∷ other ∷ row) is =
+    let (inner, closed, rest) = row-parts piece other row is in
+    behind (form_lines g b (form_of piece)) _ (no_end-form g b (form_of piece) (inner-form piece inner)) (ends-row g b (other ∷ row) rest)
 
 pub ends-lines : (g : GraphValue) (cert : Cert) → Ends (lines g cert)
-ends-lines g cert = after line.Title _ refl (after (line.Command cert.ask) _ refl (ends-body g cert.ask cert.body))
+ends-lines g cert = after line.Title _ refl (after (line.Command cert.ask) _ refl (ends-row g cert.body (row_of cert.ask cert.body) (row-is cert.ask (is_second cert.body))))
 
 -- nothing follows an end where no end stands
 pub no_end-at : (front more : List CertLine) → NoEnd (front ++ line.End ∷ more) → ⊥

@@ -1,7 +1,6 @@
 -- What was written, line by line.
 use Rattle.std.proofs.Common.{◌≡◌, ℕ, zero, suc, ◌+◌, ◌<◌, ◌≤◌, Bool, true, false, cond, List, [], ◌∷◌, ◌++◌, map, length, take, get_or, refl, sym, ap, subst, ◌∙◌, append_assoc, append-nil, add-one, Some, All, arith}
 use Rattle.std.specs.Prelude.{slice_get, codes}
-use Rattle.std.specs.Fmt.{decimal}
 use Rattle.std.specs.List.{flat_map, join_with_byte}
 use Rattle.std.proofs.lemmas.List.{take_all, take_more, map-append, flat_map_more}
 use Rattle.std.proofs.lemmas.List.Folds.{flat_map-map}
@@ -10,10 +9,8 @@ use Rattle.std.proofs.lemmas.Grind.{flat_map-append}
 use Rattle.graph_core.specs.Graph.{GraphValue}
 use Rattle.graph_core.specs.declared.graph.Line.{Line}
 use Rattle.certificate_text.specs.declared.line.CertLine.{CertLine}
-use Rattle.certificate_text.specs.declared.line.CertLine.TheVariants as line
-use Rattle.certificate_text.specs.declared.line.DualKind.{DualKind}
-use Rattle.certificate_text.specs.Words.{spelled, names_in, name_of, member_name, kind_word, word_line}
-use Rattle.certificate_text.specs.Lines.{turned_line, turned_lines, set_lines}
+use Rattle.certificate_text.specs.Words.{spelled, names_in, name_of, member_name}
+use Rattle.certificate_text.specs.Lines.{turned_line, turned_lines}
 use Rattle.certificate_text.specs.Text.{line_text, spelling}
 use Rattle.certificate_text.proofs.CodeLaws.{join-more}
 
@@ -85,21 +82,3 @@ pub turned-wrote : (g : GraphValue) (heads : List Bool) (j : ℕ) (old now new :
 turned-wrote g heads j old now new l b p q before e =
     let more : turned_lines (take (j + 1) g.lines) (take (j + 1) heads) ≡ turned_lines (take j g.lines) (take j heads) ++ turned_line l b ∷ [] = rw add-one (turned-more g.lines heads j l b p q) in
     (wrote-then g old now new (turned_lines (take j g.lines) (take j heads)) (turned_line l b ∷ []) (record { is = before }) (wrote-line g now new (turned_line l b) e)).is ∙ ap (λ xs. old ++ spelling g xs) (sym more)
-
--- a dual of several sides, and the end
-pub wrote-family : (g : GraphValue) (old a b new : List ℕ) (k : DualKind) (sides : List (List Bool)) → a ≡ old ++ word_line (codes "dual") (kind_word k) → b ≡ a ++ flat_map (λ X. line_text g (line.Set X)) sides → new ≡ b ++ line_text g line.End
-    → new ≡ old ++ spelling g (line.Dual k ∷ (set_lines sides ++ line.End ∷ []))
-wrote-family g old a b new k sides dual sets end =
-    let rest = wrote-then g a b new (set_lines sides) (line.End ∷ []) (wrote-map (List Bool) g a b line.Set sides sets) (wrote-line g b new line.End end) in
-    (wrote-then g old a new (line.Dual k ∷ []) (set_lines sides ++ line.End ∷ []) (wrote-line g old a (line.Dual k) dual) rest).is
-
--- a value, object lines of one form, and the rest
-pub wrote-object : (A : Type 0) (g : GraphValue) (old a b new : List ℕ) (value : ℕ) (c : A → CertLine) (xs : List A) (tail : List CertLine) → a ≡ old ++ word_line (codes "value") (decimal value) → b ≡ a ++ flat_map (λ x. line_text g (c x)) xs → new ≡ b ++ spelling g tail
-    → new ≡ old ++ spelling g (line.Value value ∷ (map c xs ++ tail))
-wrote-object A g old a b new value c xs tail head object rest =
-    let more = wrote-then g a b new (map c xs) tail (wrote-map A g a b c xs object) (record { is = rest }) in
-    (wrote-then g old a new (line.Value value ∷ []) (map c xs ++ tail) (wrote-line g old a (line.Value value) head) more).is
-
--- object lines of one form, and the end
-pub wrote-end : (g : GraphValue) (old a new : List ℕ) (xs : List CertLine) → a ≡ old ++ spelling g xs → new ≡ a ++ line_text g line.End → new ≡ old ++ spelling g (xs ++ line.End ∷ [])
-wrote-end g old a new xs object end = (wrote-then g old a new xs (line.End ∷ []) (record { is = object }) (wrote-line g a new line.End end)).is

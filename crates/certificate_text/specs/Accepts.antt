@@ -1,4 +1,4 @@
--- Lines that a row of the table takes.
+-- Lines that a row of the table takes. No public clause cites it.
 use Rattle.std.specs.Prelude.{◌≡◌, ◌⊎◌, List, [], ◌∷◌, length, Some}
 use Rattle.graph_core.specs.Graph.{GraphValue}
 use Rattle.problem_defs.specs.Shaped.{Belongs, IsInRange}
@@ -7,8 +7,8 @@ use Rattle.problem_defs.specs.declared.cert.Body.{Body}
 use Rattle.certificate_text.specs.declared.line.CertLine.{CertLine}
 use Rattle.certificate_text.specs.declared.row.Piece.{Piece}
 use Rattle.certificate_text.specs.Table.{rows}
-use Rattle.certificate_text.specs.Machine.{slots, run}
-use Rattle.certificate_text.specs.Fits.{fits}
+use Rattle.certificate_text.specs.Taking.{slots, take_lines}
+use Rattle.certificate_text.specs.Forms.{has_form}
 use Rattle.certificate_text.specs.Lines.{body_lines}
 use Rattle.problem_defs.specs.Shaped.{NumbersFit}
 
@@ -19,7 +19,7 @@ SomeRow P (row ∷ rows) = P row ⊎ SomeRow P rows
 
 -- a row of the command takes these lines, and is then at its end
 abbrev pub Accepts : GraphValue → Ask → List CertLine → Type 0
-Accepts g ask xs = SomeRow (λ row. run (fits g) (slots (length g.lines) row) xs ≡ Some []) (rows ask)
+Accepts g ask xs = SomeRow (λ row. take_lines (has_form g) (slots (length g.lines) row) xs ≡ Some []) (rows ask)
 
 -- a body of the command, of which these are the lines
 pub record HasBody (g : GraphValue) (ask : Ask) (xs : List CertLine) : Type 0 where

@@ -1,4 +1,4 @@
--- What lines hold, gathered, and the body that is made of it.
+-- What lines hold, gathered, and the body that is made of it. No public clause cites it.
 use Rattle.std.specs.Prelude.{ℕ, ◌==◌, Bool, true, false, if◌then◌else◌, List, [], ◌∷◌, ◌++◌, slice_index_or}
 use Rattle.graph_core.specs.Graph.{GraphValue}
 use Rattle.graph_core.specs.declared.graph.Line.{Line}
@@ -13,30 +13,30 @@ use Rattle.certificate_text.specs.declared.line.CertLine.{CertLine}
 use Rattle.certificate_text.specs.declared.line.CertLine.TheVariants as line
 use Rattle.certificate_text.specs.declared.line.DualKind.{DualKind}
 use Rattle.certificate_text.specs.declared.line.DualKind.TheVariants as kind
-use Rattle.certificate_text.specs.declared.gather.Content.{Content}
+use Rattle.certificate_text.specs.declared.gather.Gathered.{Gathered}
 
-abbrev pub nothing : Content
+abbrev pub nothing : Gathered
 nothing = record { value = 0; impossible = false; rows = []; trees = []; pairs = []; kind = kind.Nothing; sides = [] }
 
 -- the content with what one more line holds
-abbrev pub grown : Content → CertLine → Content
-grown c line.Title = c
-grown c (line.Command ask) = c
-grown c (line.Value n) = record c { value = n }
-grown c line.Impossible = record c { impossible = true }
-grown c (line.Path js) = record c { rows = c.rows ++ js ∷ [] }
-grown c (line.Part js) = record c { rows = c.rows ++ js ∷ [] }
-grown c (line.Join js) = record c { rows = c.rows ++ js ∷ [] }
-grown c (line.Tree u v n) = record c { trees = c.trees ++ (u, v, n) ∷ [] }
-grown c (line.Edge u v) = record c { pairs = c.pairs ++ (u, v) ∷ [] }
-grown c (line.Arc u v) = record c { pairs = c.pairs ++ (u, v) ∷ [] }
-grown c (line.Dual k) = record c { kind = k }
-grown c (line.Set X) = record c { sides = c.sides ++ X ∷ [] }
-grown c line.End = c
+abbrev pub with_line : Gathered → CertLine → Gathered
+with_line c line.Title = c
+with_line c (line.Command ask) = c
+with_line c (line.Value n) = record c { value = n }
+with_line c line.Impossible = record c { impossible = true }
+with_line c (line.Path js) = record c { rows = c.rows ++ js ∷ [] }
+with_line c (line.Part js) = record c { rows = c.rows ++ js ∷ [] }
+with_line c (line.Join js) = record c { rows = c.rows ++ js ∷ [] }
+with_line c (line.Tree u v n) = record c { trees = c.trees ++ (u, v, n) ∷ [] }
+with_line c (line.Edge u v) = record c { pairs = c.pairs ++ (u, v) ∷ [] }
+with_line c (line.Arc u v) = record c { pairs = c.pairs ++ (u, v) ∷ [] }
+with_line c (line.Dual k) = record c { kind = k }
+with_line c (line.Set X) = record c { sides = c.sides ++ X ∷ [] }
+with_line c line.End = c
 
-abbrev pub gather : Content → List CertLine → Content
+abbrev pub gather : Gathered → List CertLine → Gathered
 gather c [] = c
-gather c (x ∷ xs) = gather (grown c x) xs
+gather c (x ∷ xs) = gather (with_line c x) xs
 
 -- whether each edge goes from its first written end
 abbrev pub heads_of : List Line → List (ℕ × ℕ) → List Bool
@@ -44,10 +44,10 @@ heads_of [] pairs = []
 heads_of (l ∷ ls) [] = []
 heads_of (l ∷ ls) (p ∷ pairs) = (p.0 == l.tail) ∷ heads_of ls pairs
 
-abbrev pub only_side : Content → List Bool
+abbrev pub only_side : Gathered → List Bool
 only_side c = slice_index_or c.sides 0 []
 
-abbrev pub forests_body : Content → DualKind → Body
+abbrev pub forests_body : Gathered → DualKind → Body
 forests_body c kind.Nothing = body.Parts c.value c.rows parts.Nothing
 forests_body c other = body.Parts c.value c.rows (parts.Induced (only_side c))
 
@@ -55,7 +55,7 @@ abbrev pub way_of : DualKind → Way
 way_of kind.Out = Leaving
 way_of other = Entering
 
-abbrev pub body_of : GraphValue → Ask → Content → Body
+abbrev pub body_of : GraphValue → Ask → Gathered → Body
 body_of g (ask.Flow s t) c = body.Walks c.value c.rows (only_side c)
 body_of g ask.CutTree c = body.Tree c.trees
 body_of g (ask.Augment k) c = body.Edges c.value c.pairs c.sides

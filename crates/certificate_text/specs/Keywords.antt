@@ -1,11 +1,9 @@
--- The first words of lines and of commands.
+-- The first words of lines, and the nodes that an ask names. No public clause cites it.
 use Rattle.std.specs.Prelude.{ℕ, ◌<◌, List, codes}
 use Rattle.problem_defs.specs.declared.ask.Ask.{Ask}
 use Rattle.problem_defs.specs.declared.ask.Ask.TheVariants as ask
 use Rattle.certificate_text.specs.declared.keyword.Keyword.{Keyword}
 use Rattle.certificate_text.specs.declared.keyword.Keyword.TheVariants as key
-use Rattle.certificate_text.specs.declared.keyword.Verb.{Verb}
-use Rattle.certificate_text.specs.declared.keyword.Verb.TheVariants as verb
 
 abbrev pub keyword_word : Keyword → List ℕ
 keyword_word key.Certificate = codes "certificate"
@@ -21,17 +19,6 @@ keyword_word key.Arc = codes "arc"
 keyword_word key.Dual = codes "dual"
 keyword_word key.Set = codes "set"
 keyword_word key.End = codes "end"
-
-abbrev pub verb_word : Verb → List ℕ
-verb_word verb.Flow = codes "flow"
-verb_word verb.CutTree = codes "cuttree"
-verb_word verb.Augment = codes "augment"
-verb_word verb.AugmentArcs = codes "augment-arcs"
-verb_word verb.Arborescences = codes "arborescences"
-verb_word verb.Trees = codes "trees"
-verb_word verb.Forests = codes "forests"
-verb_word verb.Orient = codes "orient"
-verb_word verb.Dijoin = codes "dijoin"
 
 -- the nodes that an ask names are among n
 abbrev pub NamesNodes : ℕ → Ask → Type 0

@@ -1,16 +1,16 @@
 -- Certificates as lines.
 pub mod Table
-pub mod Machine
+pub mod Taking
 pub mod Words
 pub mod Valid
-pub mod Fits
+pub mod Forms
 pub mod Lines
 pub mod Text
 pub mod BadLine
 pub mod Front
 pub mod Accepts
 pub mod Gather
-pub mod Allowed
+pub mod MayBegin
 pub mod Reading
 pub mod Places
 pub mod Loop

@@ -1,4 +1,4 @@
--- The first nodes of a side, read off its names.
+-- The first nodes of a side, read off its names. No public clause cites it.
 use Rattle.std.specs.Prelude.{◌≡◌, ℕ, ◌++◌, Bool, List, length, take, drop}
 use Rattle.certificate_text.specs.Words.{names_in}
 

@@ -1,4 +1,4 @@
--- What a line of a certificate may hold: what is named is there, and numbers fit 64 bits.
+-- What a line of a certificate may hold: what is named is there, and numbers fit 64 bits. No public clause cites it.
 use Rattle.std.specs.Prelude.{◌≡◌, ◌<◌, ◌^◌, List, [], ◌∷◌, length, All, None}
 use Rattle.graph_core.specs.Graph.{GraphValue}
 use Rattle.problem_defs.specs.Ask.{misfit_of, KIsInRange}

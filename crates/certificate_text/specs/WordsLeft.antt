@@ -1,4 +1,4 @@
--- The words of a line that were not read yet: what stands between blanks.
+-- The words of a line that were not read yet: what stands between blanks. No public clause cites it.
 use Rattle.std.specs.Prelude.{ℕ, ◌==◌, Bool, List, []}
 use Rattle.std.specs.List.{slice_split}
 use Rattle.certificate_text.specs.declared.words.WordsLeft.{WordsLeft}

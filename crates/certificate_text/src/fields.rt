@@ -35,7 +35,7 @@ pub fn only_number(words: WordsLeft<'_>) -> Option<u64>
 
 /// The dual that the only word left names.
 pub fn only_kind(words: WordsLeft<'_>) -> Option<DualKind>
-    ensures { Finds (λ _. Unit {0}) (λ k. words_of.kind_word k ∷ []) (words_left words.entry) result }
+    ensures { Finds (λ _. Unit {0}) (λ k. words_of.dual_word k ∷ []) (words_left words.entry) result }
 {
     let Some((word, rest)) = next_word(words) else {
         return None;

@@ -4,7 +4,7 @@ ghost use Rattle.certificate_text.specs.Keywords as keywords;
 ghost use Rattle.certificate_text.specs.Words as words_of;
 
 use crate::line::DualKind;
-use crate::spell::kind_word;
+use crate::spell::dual_word;
 
 /// The first word of a line.
 #[derive(Clone, Copy)]
@@ -24,21 +24,7 @@ pub enum Keyword {
     End,
 }
 
-/// The first word of a command.
-#[derive(Clone, Copy)]
-pub enum Verb {
-    Flow,
-    CutTree,
-    Augment,
-    AugmentArcs,
-    Arborescences,
-    Trees,
-    Forests,
-    Orient,
-    Dijoin,
-}
-
-// What a word is looked up in: each keyword, each verb and each dual.
+// What a word is looked up in: each keyword and each dual.
 static KEYWORDS: [Keyword; 13] = [
     Keyword::Certificate,
     Keyword::Command,
@@ -53,18 +39,6 @@ static KEYWORDS: [Keyword; 13] = [
     Keyword::Dual,
     Keyword::Set,
     Keyword::End,
-];
-
-static VERBS: [Verb; 9] = [
-    Verb::Flow,
-    Verb::CutTree,
-    Verb::Augment,
-    Verb::AugmentArcs,
-    Verb::Arborescences,
-    Verb::Trees,
-    Verb::Forests,
-    Verb::Orient,
-    Verb::Dijoin,
 ];
 
 static KINDS: [DualKind; 10] = [
@@ -113,41 +87,12 @@ fn word_of_keyword(keyword: Keyword) -> &'static [u8]
     }
 }
 
-/// The verb of this word.
-pub fn verb_of(word: &[u8]) -> Option<Verb>
-    ensures { Finds (λ _. Unit {0}) keywords.verb_word word.now result }
-{
-    for verb in &VERBS {
-        if word == word_of_verb(*verb) {
-            return Some(*verb);
-        }
-    }
-    None
-}
-
-// The word for a verb.
-fn word_of_verb(verb: Verb) -> &'static [u8]
-    ensures { result.now ≡ keywords.verb_word verb }
-{
-    match verb {
-        Verb::Flow => b"flow",
-        Verb::CutTree => b"cuttree",
-        Verb::Augment => b"augment",
-        Verb::AugmentArcs => b"augment-arcs",
-        Verb::Arborescences => b"arborescences",
-        Verb::Trees => b"trees",
-        Verb::Forests => b"forests",
-        Verb::Orient => b"orient",
-        Verb::Dijoin => b"dijoin",
-    }
-}
-
 /// The dual of this word.
 pub fn kind_of(word: &[u8]) -> Option<DualKind>
-    ensures { Finds (λ _. Unit {0}) words_of.kind_word word.now result }
+    ensures { Finds (λ _. Unit {0}) words_of.dual_word word.now result }
 {
     for kind in &KINDS {
-        if word == kind_word(*kind) {
+        if word == dual_word(*kind) {
             return Some(*kind);
         }
     }

@@ -9,7 +9,7 @@ ghost use Rattle.certificate_text.specs.Words.{spelled};
 ghost use Rattle.certificate_text.specs.Valid.{IsValid};
 ghost use Rattle.certificate_text.specs.Places.{view};
 ghost use Rattle.certificate_text.specs.Reading.{HasRead};
-ghost use Rattle.certificate_text.specs.Loop.{AreRows};
+ghost use Rattle.certificate_text.specs.Loop.{AreSlotsOf};
 ghost use Rattle.certificate_text.specs.Front.{IsAtFront};
 ghost use Rattle.certificate_text.specs.Refusal.{IsRefused};
 
@@ -60,7 +60,7 @@ fn read_rest<'a>(
     bytes: &[u8],
     after: &[u8],
 ) -> Result<(Cert, usize), CertRefusal>
-    requires rows_are { (row : List Slot) × (view first ≡ Some row) × AreRows graph.now ask row (view second) }
+    requires rows_are { (row : List Slot) × (view first ≡ Some row) × AreSlotsOf graph.now ask row (view second) }
     requires begun { HasRead graph.now bytes.now (Title ∷ Command ask ∷ []) after.now }
     ensures ok { IfOk result (λ found. IsAtFront graph.now bytes.now found.0 found.1) }
     ensures bad { IfErr result (IsRefused graph.now bytes.now) }

@@ -164,16 +164,16 @@ fn push_turned_line(
 }
 
 pub fn push_dual(text: &mut Vec<u8>, kind: DualKind) -> Result<(), NoMemory>
-    ensures { OnOk result (text.new.items ≡ text.old.items ++ words_of.word_line (codes "dual") (words_of.kind_word kind)) }
+    ensures { OnOk result (text.new.items ≡ text.old.items ++ words_of.word_line (codes "dual") (words_of.dual_word kind)) }
 {
     push_text(text, b"dual ")?;
-    push_text(text, kind_word(kind))?;
+    push_text(text, dual_word(kind))?;
     push_text(text, b"\n")
 }
 
 /// The word for a dual.
-pub fn kind_word(kind: DualKind) -> &'static [u8]
-    ensures { result.now ≡ words_of.kind_word kind }
+pub fn dual_word(kind: DualKind) -> &'static [u8]
+    ensures { result.now ≡ words_of.dual_word kind }
 {
     match kind {
         DualKind::Cut => b"cut",

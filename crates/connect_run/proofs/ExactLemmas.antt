@@ -18,12 +18,17 @@ use Rattle.connect_run.specs.CheckCase.{AnswersAccepted, AnswersRejected, Answer
 use Rattle.connect_run.specs.UnsuitedCase.{AnswersUnsuited}
 use Rattle.connect_run.specs.SolvedCase.{AnswersSolved}
 use Rattle.connect_run.specs.Answer.{IsAnswer, AnswersInput, AnswersText, AnswersGraph, AnswersCommand}
-use Rattle.connect_run.specs.Run.{Writes, Ends, IsExact, IsComplete, CanBeSolved, CanBeChecked}
+use Rattle.connect_run.specs.Run.{TellsAsk, Writes, Ends, Fails, IsExact, IsComplete, CanBeSolved, CanBeChecked}
 use Rattle.connect_run.proofs.CommandLemmas.{command-not-bad}
-use Rattle.connect_run.proofs.StatusLemmas.{verdict-done, writes-whole}
+use Rattle.connect_run.proofs.StatusLemmas.{verdict-tells, one-verdict, writes-whole}
 
-solved-done : (g : GraphValue) (ask : Ask) (text : List ℕ) (status : Status) → AnswersSolved g ask text status → status ≡ Done
-solved-done g ask text status solved = solved.status_is ∙ verdict-done g solved.cert.ask solved.cert.body solved.meets.object
+-- what is solved tells whether there is an object
+solved-tells : (g : GraphValue) (ask : Ask) (text : List ℕ) (status : Status) → AnswersSolved g ask text status → TellsAsk g ask status
+solved-tells g ask text status solved = subst (λ x. TellsAsk g x status) solved.asks (subst (TellsAsk g solved.cert.ask) (sym solved.status_is) (verdict-tells g solved.cert.ask solved.cert.body solved.meets.object solved.best))
+
+solved-once : (g : GraphValue) (ask : Ask) (text other : List ℕ) (a b : Status) → AnswersSolved g ask text a → AnswersSolved g ask other b → a ≡ b
+solved-once g ask text other a b first second =
+    one-verdict g ask a b (solved-tells g ask text a first) (solved-tells g ask other b second)
 
 -- an ask that suits isn't refused
 suited-once : (g : GraphValue) (ask : Ask) (text other : List ℕ) (a b : Status) → AnswersUnsuited g ask text a → AnswersSolved g ask other b → ⊥
@@ -36,7 +41,7 @@ one_ask_status : (g : GraphValue) (ask : Ask) (text other : List ℕ) (a b : Sta
 one_ask_status g ask text other a b (inl first) (inl second) = first.status_is ∙ sym second.status_is
 one_ask_status g ask text other a b (inl first) (inr second) = absurd (suited-once g ask text other a b first second)
 one_ask_status g ask text other a b (inr first) (inl second) = absurd (suited-once g ask other text b a second first)
-one_ask_status g ask text other a b (inr first) (inr second) = solved-done g ask text a first ∙ sym (solved-done g ask other b second)
+one_ask_status g ask text other a b (inr first) (inr second) = solved-once g ask text other a b first second
 
 -- a command asks one thing
 one_ask : (g : GraphValue) (words : List (List ℕ)) (command : Command) (a b : Ask) → asked g words command ≡ Some a → asked g words command ≡ Some b → a ≡ b
@@ -103,7 +108,7 @@ one_status words input text other a b (inr (command, commands, first)) (inr (com
     (subst (λ x. AnswersCommand x words input other b) (one_command words command' command commands'.writes commands.writes) second)
 
 -- a graph whose ask suits it has no answer but a certificate
-solved_graph : (command : Command) (words : List (List ℕ)) (input : List ℕ) (g : GraphValue) (text : List ℕ) (status : Status) (solvable : CanBeSolved words input) → command ≡ solvable.command → IsTextAlone input g → AnswersGraph command words g text status → status ≡ Done
+solved_graph : (command : Command) (words : List (List ℕ)) (input : List ℕ) (g : GraphValue) (text : List ℕ) (status : Status) (solvable : CanBeSolved words input) → command ≡ solvable.command → IsTextAlone input g → AnswersGraph command words g text status → TellsAsk solvable.g solvable.ask status
 solved_graph command words input g text status solvable same reads (ask, asks, inl unsuited) =
     let graph : g ≡ solvable.g = one_text_alone input g solvable.g reads solvable.reads in
     let asks' : asked solvable.g words solvable.command ≡ Some ask = subst (λ x. asked solvable.g words x ≡ Some ask) same (subst (λ x. asked x words command ≡ Some ask) graph asks) in
@@ -111,10 +116,14 @@ solved_graph command words input g text status solvable same reads (ask, asks, i
     let misfit : misfit_of solvable.g solvable.ask ≡ Some unsuited.misfit = subst (λ x. misfit_of solvable.g x ≡ Some unsuited.misfit) ask_is (subst (λ x. misfit_of x ask ≡ Some unsuited.misfit) graph unsuited.unsuited) in
     let clash : None ≡ Some unsuited.misfit = sym solvable.suits ∙ misfit in
     cc
-solved_graph command words input g text status solvable same reads (ask, asks, inr solved) = solved-done g ask text status solved
+solved_graph command words input g text status solvable same reads (ask, asks, inr solved) =
+    let graph : g ≡ solvable.g = one_text_alone input g solvable.g reads solvable.reads in
+    let asks' : asked solvable.g words solvable.command ≡ Some ask = subst (λ x. asked solvable.g words x ≡ Some ask) same (subst (λ x. asked x words command ≡ Some ask) graph asks) in
+    let ask_is : ask ≡ solvable.ask = one_ask solvable.g words solvable.command ask solvable.ask asks' solvable.asks in
+    subst (λ x. TellsAsk solvable.g x status) ask_is (subst (λ x. TellsAsk x ask status) graph (solved-tells g ask text status solved))
 
 -- a graph text whose ask suits it has no answer but a certificate
-solved_text : (command : Command) (words : List (List ℕ)) (input text : List ℕ) (status : Status) (solvable : CanBeSolved words input) → command ≡ solvable.command → AnswersText command words input text status → status ≡ Done
+solved_text : (command : Command) (words : List (List ℕ)) (input text : List ℕ) (status : Status) (solvable : CanBeSolved words input) → command ≡ solvable.command → AnswersText command words input text status → TellsAsk solvable.g solvable.ask status
 solved_text Check words input text status solvable same answers =
     let asks : asked solvable.g words Check ≡ Some solvable.ask = subst (λ x. asked solvable.g words x ≡ Some solvable.ask) (sym same) solvable.asks in
     absurd cc
@@ -129,12 +138,12 @@ solved-sound Check words input line why solvable same fault =
     cc
 solved-sound command words input line why solvable same fault = not_both_alone input solvable.g line why solvable.reads fault
 
-solved_status : (command : Command) (words : List (List ℕ)) (input text : List ℕ) (status : Status) (solvable : CanBeSolved words input) → command ≡ solvable.command → AnswersCommand command words input text status → status ≡ Done
+solved_status : (command : Command) (words : List (List ℕ)) (input text : List ℕ) (status : Status) (solvable : CanBeSolved words input) → command ≡ solvable.command → AnswersCommand command words input text status → TellsAsk solvable.g solvable.ask status
 solved_status command words input text status solvable same (inl long) = absurd (omega (arith, long.long, solvable.short))
 solved_status command words input text status solvable same (inr (short, inl fault)) = absurd (solved-sound command words input fault.line fault.why solvable same fault.fault)
 solved_status command words input text status solvable same (inr (short, inr answers)) = solved_text command words input text status solvable same answers
 
-pub solvable_status : (words : List (List ℕ)) (input text : List ℕ) (status : Status) → CanBeSolved words input → IsAnswer words input text status → status ≡ Done
+pub solvable_status : (words : List (List ℕ)) (input text : List ℕ) (status : Status) → (solvable : CanBeSolved words input) → IsAnswer words input text status → TellsAsk solvable.g solvable.ask status
 solvable_status words input text status solvable (inl bad) = absurd (command-not-bad words bad.place bad.bad (solvable.command, solvable.commands))
 solvable_status words input text status solvable (inr (command, commands, answers)) =
     solved_status command words input text status solvable (one_command words command solvable.command commands.writes solvable.commands.writes) answers
@@ -162,7 +171,7 @@ exact words (Some bytes) old new result writes = λ text status answer. elim (wr
       inl (one_status words bytes said text result status (subst (λ x. IsAnswer words x said result) told answer') answer))
 ]
 
-solves : (words : List (List ℕ)) (bytes : List ℕ) (old new : Option (List ℕ)) (result : Status) → Writes words (Some bytes) old new result → CanBeSolved words bytes → Ends result Done
+solves : (words : List (List ℕ)) (bytes : List ℕ) (old new : Option (List ℕ)) (result : Status) → Writes words (Some bytes) old new result → (solvable : CanBeSolved words bytes) → TellsAsk solvable.g solvable.ask result ⊎ Fails result
 solves words bytes old new result writes solvable = elim (writes-whole words (Some bytes) old new result writes) [
   | inl fault ↦ inr fault
   | inr whole ↦

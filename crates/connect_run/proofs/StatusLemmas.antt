@@ -1,23 +1,24 @@
 -- Which statuses answers have.
-use Rattle.std.proofs.Common.{◌≡◌, ℕ, ◌⊎◌, List, Bool, true, false, Option, refl, ap, ◌∙◌, inl, inr, drop}
+use Rattle.std.proofs.Common.{◌≡◌, ℕ, ◌⊎◌, List, Bool, true, false, Option, refl, sym, ap, ◌∙◌, inl, inr, drop}
 use Rattle.graph_core.specs.Graph.{GraphValue}
 use Rattle.graph_text.specs.declared.refusal.Why.{Why}
 use Rattle.graph_text.specs.declared.refusal.Why.TheVariants.{ManyNodes, ManyLines}
+use Rattle.problem_defs.specs.Best.{IsBest}
+use Rattle.problem_defs.specs.Impossible.{IsNever}
+use Rattle.problem_defs.proofs.NeverLaw.{object-or-never}
 use Rattle.problem_defs.specs.Meets.{HasObject}
 use Rattle.problem_defs.specs.declared.ask.Ask.{Ask}
-use Rattle.problem_defs.specs.declared.ask.Ask.TheVariants.{Flow, CutTree, Arborescences, Trees, Forests}
 use Rattle.problem_defs.specs.declared.cert.Body.{Body}
-use Rattle.problem_defs.specs.declared.cert.Body.TheVariants.{Tree, Walks, Parts, Never}
-use Rattle.problem_defs.specs.declared.cert.PartsDual.TheVariants.{Cut, Partition, Induced, Nothing}
+use Rattle.problem_defs.specs.declared.cert.Body.TheVariants.{Never}
 use Rattle.connect_run.specs.FaultCase.{fault_status}
 use Rattle.connect_run.specs.SolvedCase.{verdict}
 use Rattle.connect_words.specs.declared.command.Command.{Command}
 use Rattle.connect_words.specs.declared.command.Command.TheVariants.{Check}
 use Rattle.connect_run.specs.Answer.{IsAnswer, AnswersText, AnswersGraph}
 use Rattle.connect_run.specs.CheckCase.{AnswersCheck}
-use Rattle.connect_run.specs.Run.{Writes, WritesWhole}
+use Rattle.connect_run.specs.Run.{TellsAsk, Writes, WritesWhole}
 use Rattle.connect_run.specs.declared.status.Status.{Status}
-use Rattle.connect_run.specs.declared.status.Status.TheVariants.{Done, ReadFault, WriteFault, NoMemory}
+use Rattle.connect_run.specs.declared.status.Status.TheVariants.{Done, Impossible, ReadFault, WriteFault, NoMemory}
 
 -- a status that an answer may have
 abbrev pub is_told : Status → Bool
@@ -35,15 +36,27 @@ verdict-told : (body : Body) → is_told (verdict body) ≡ true
 verdict-told (Never side) = refl
 verdict-told body = refl
 
--- no answer to a command is impossible yet: each body that answers its ask has an object
-pub verdict-done : (g : GraphValue) (ask : Ask) (body : Body) → HasObject g ask body → verdict body ≡ Done
-verdict-done g (Flow s t) (Walks value rows cut) object = refl
-verdict-done g CutTree (Tree pairs) object = refl
-verdict-done g (Arborescences r) (Parts value rows (Cut side)) object = refl
-verdict-done g Trees (Parts value rows (Partition classes)) object = refl
-verdict-done g Forests (Parts value rows (Induced side)) object = refl
-verdict-done g Forests (Parts value rows Nothing) object = refl
-verdict-done g ask body object = absurd object
+-- a body is a verdict on its ask: Impossible exactly where the graph has no object for it
+pub verdict-tells : (g : GraphValue) (ask : Ask) (body : Body) → HasObject g ask body → IsBest g ask body → TellsAsk g ask (verdict body)
+verdict-tells g ask body object best = elim (object-or-never g ask body object best) [
+  | inl (here, some) ↦ inl (done body here, some)
+  | inr (here, none) ↦ inr (impossible body here, none)
+]
+  where
+    done : (body : Body) → (IsNever body → ⊥) → verdict body ≡ Done
+    done (Never side) here = absurd (here tt)
+    done body here = refl
+
+    impossible : (body : Body) → IsNever body → verdict body ≡ Impossible
+    impossible (Never side) here = refl
+    impossible body here = absurd here
+
+-- so two verdicts on one ask are the same
+pub one-verdict : (g : GraphValue) (ask : Ask) (a b : Status) → TellsAsk g ask a → TellsAsk g ask b → a ≡ b
+one-verdict g ask a b (inl first) (inl second) = first.0 ∙ sym second.0
+one-verdict g ask a b (inl first) (inr second) = absurd (first.1 second.1)
+one-verdict g ask a b (inr first) (inl second) = absurd (second.1 first.1)
+one-verdict g ask a b (inr first) (inr second) = first.0 ∙ sym second.0
 
 check-told : (g : GraphValue) (bytes text : List ℕ) (status : Status) → AnswersCheck g bytes text status → is_told status ≡ true
 check-told g bytes text status (inl accepted) = ap is_told accepted.status_is

@@ -1,27 +1,25 @@
 -- The commands that are built.
-use Rattle.std.specs.Prelude.{ℕ, ◌≡◌, Bool, true, false, List}
+use Rattle.std.specs.Prelude.{ℕ, ◌≡◌, Bool, true, false, List, Some, None, Option}
 use Rattle.connect_words.specs.Commands.{Writes}
+use Rattle.connect_words.specs.Blanks.{verb_of}
 use Rattle.connect_words.specs.declared.command.Command.{Command}
 use Rattle.connect_words.specs.declared.command.Command.TheVariants as command
+use Rattle.problem_defs.specs.Built as verbs
+use Rattle.problem_defs.specs.Verbs.{verb_of as verb_of_ask}
 use Rattle.problem_defs.specs.declared.ask.Ask.{Ask}
-use Rattle.problem_defs.specs.declared.ask.Ask.TheVariants as ask
+use Rattle.problem_defs.specs.declared.verb.Verb.{Verb}
 
--- The commands that ask something of the graph, which is then solved. A further command joins by its line, and so does its ask.
-abbrev pub is_solving : Command → Bool
-is_solving command.Flow = true
-is_solving command.CutTree = true
-is_solving command.Arborescences = true
-is_solving command.Trees = true
-is_solving command.Forests = true
-is_solving other = false
-
+-- the ask is solved: its verb is built
 abbrev pub is_solved : Ask → Bool
-is_solved (ask.Flow s t) = true
-is_solved ask.CutTree = true
-is_solved (ask.Arborescences r) = true
-is_solved ask.Trees = true
-is_solved ask.Forests = true
-is_solved other = false
+is_solved ask = verbs.is_built (verb_of_ask ask)
+
+abbrev pub has_built : Option Verb → Bool
+has_built (Some verb) = verbs.is_built verb
+has_built None = false
+
+-- the command asks something of the graph, which is then solved
+abbrev pub is_solving : Command → Bool
+is_solving command = has_built (verb_of command)
 
 abbrev pub is_built : Command → Bool
 is_built command.Check = true

@@ -9,12 +9,13 @@ use Rattle.connect_words.specs.Asks.{asked}
 use Rattle.connect_words.specs.declared.command.Command.{Command}
 use Rattle.connect_words.specs.declared.command.Command.TheVariants.{Check}
 use Rattle.problem_defs.specs.Ask.{misfit_of}
+use Rattle.problem_defs.specs.Impossible.{IsImpossible}
 use Rattle.problem_defs.specs.declared.ask.Ask.{Ask}
 use Rattle.connect_run.specs.Built.{Commands}
 use Rattle.connect_run.specs.LargeCase.{limit}
 use Rattle.connect_run.specs.Answer.{IsAnswer}
 use Rattle.connect_run.specs.declared.status.Status.{Status}
-use Rattle.connect_run.specs.declared.status.Status.TheVariants.{Done, Rejected, ReadFault, WriteFault, NoMemory}
+use Rattle.connect_run.specs.declared.status.Status.TheVariants.{Done, Impossible, Rejected, ReadFault, WriteFault, NoMemory}
 
 -- an answer to what the source had left, where it tells it, and else to some input
 abbrev pub AnswersLeft : List (List ℕ) → Option (List ℕ) → List ℕ → Status → Type 0
@@ -48,9 +49,13 @@ pub record ReadsWithin (old new : Option (List ℕ)) : Type 0 where
 abbrev pub Drains : Option (List ℕ) → Option (List ℕ) → Type 0
 Drains old new = IfSome old (λ bytes. length bytes ≤ limit → IsAtEnd new)
 
+-- a fault came or memory ran out
+abbrev pub Fails : Status → Type 0
+Fails result = (result ≡ ReadFault) ⊎ (result ≡ WriteFault) ⊎ (result ≡ NoMemory)
+
 -- the status is this one, unless a fault came or memory ran out
 abbrev pub Ends : Status → Status → Type 0
-Ends result status = (result ≡ status) ⊎ (result ≡ ReadFault) ⊎ (result ≡ WriteFault) ⊎ (result ≡ NoMemory)
+Ends result status = (result ≡ status) ⊎ Fails result
 
 -- each answer that the words and the input have has this status, unless a fault came or memory ran out
 abbrev pub IsExact : List (List ℕ) → List ℕ → Status → Type 0
@@ -75,7 +80,11 @@ pub record CanBeChecked (words : List (List ℕ)) (input : List ℕ) : Type 0 wh
   pub count : ℕ
   pub reads : ReadsText input g count
 
+-- the status of an ask that suits the graph: Impossible exactly where the graph has no object for it, and else Done
+abbrev pub TellsAsk : GraphValue → Ask → Status → Type 0
+TellsAsk g ask status = ((status ≡ Done) × (IsImpossible g ask → ⊥)) ⊎ ((status ≡ Impossible) × IsImpossible g ask)
+
 -- it does succeed, unless a fault came or memory ran out
 pub record IsComplete (words : List (List ℕ)) (input : List ℕ) (result : Status) : Type 0 where
-  pub solved : CanBeSolved words input → Ends result Done
+  pub solved : (given : CanBeSolved words input) → TellsAsk given.g given.ask result ⊎ Fails result
   pub checked : CanBeChecked words input → Ends result Done ⊎ Ends result Rejected

@@ -136,8 +136,8 @@ fn reply_to_graph<K: Sink>(
         → misfit_of graph.now ask ≡ Some misfit → (result ≡ Status.Unsuited) ⊎ (result ≡ Status.WriteFault) }
 {
     match ask_of(graph, command, words) {
-        Ok(ask) => match solution(alloc, graph, &ask) {
-            Ok(solution) => say(sink, solution.status, &solution.text),
+        Ok(ask) => match solved_text(alloc, graph, &ask) {
+            Ok(solved) => say(sink, solved.status, &solved.text),
             Err(NoMemory) => Status::NoMemory,
         },
         Err(misfit) => {
@@ -147,13 +147,14 @@ fn reply_to_graph<K: Sink>(
     }
 }
 
-fn solution(alloc: Global, graph: &Graph, ask: &Ask) -> Result<SolvedText, NoMemory>
+fn solved_text(alloc: Global, graph: &Graph, ask: &Ask) -> Result<SolvedText, NoMemory>
     requires size { IsWithinSize graph.now }
     requires built { is_solved ask.now ≡ true }
     requires k { KIsInRange ask.now }
     requires suits { misfit_of graph.now ask.now ≡ None }
     ensures { IfOk result (λ found. AnswersSolved graph.now ask.now found.text.items found.status) }
 {
+    graph.known();
     let cert = solve(alloc, graph, ask)?;
     let text = write_cert(alloc, graph, &cert)?;
     Ok(SolvedText {

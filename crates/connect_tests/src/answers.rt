@@ -1,20 +1,24 @@
-use crate::examples::SQUARE;
+use crate::examples::{ONE_NODE, OUT_STAR, PATH, SQUARE, TRIANGLE};
 use crate::run::{answer, graph_text, same};
 use std::alloc::Global;
 use std::process::Abort;
 use std::test::Fail;
 
 // Words, input, the whole text and the exit number.
-const WHOLE: [(&str, &[u8], &[u8], u8); 35] = [
+const WHOLE: [(&str, &[u8], &[u8], u8); 45] = [
     // No word goes on; the source isn't read.
     ("", b"", b"words 1\n", 3),
     ("flow a", b"", b"words 3\n", 3),
     ("flow a b c", b"", b"words 4\n", 3),
     ("augment 33", b"", b"words 2\n", 3),
     ("augment 02", b"", b"words 2\n", 3),
+    ("augment-arcs 0", b"", b"words 2\n", 3),
+    ("augment-arcs", b"", b"words 2\n", 3),
+    ("orient 33", b"", b"words 2\n", 3),
+    ("orient 1 2", b"", b"words 3\n", 3),
     ("trial flow 40 x", b"", b"words 4\n", 3),
     // Commands that aren't built.
-    ("augment 2", b"", b"words 1\n", 3),
+    ("dijoin", b"", b"words 1\n", 3),
     ("check x", b"", b"words 2\n", 3),
     (
         "check",
@@ -107,6 +111,28 @@ const WHOLE: [(&str, &[u8], &[u8], u8); 35] = [
         b"graph undirected\nnode a\nend\n",
         b"unsuited kind\n",
         6,
+    ),
+    ("augment 2", OUT_STAR, b"unsuited kind\n", 6),
+    ("augment-arcs 2", PATH, b"unsuited kind\n", 6),
+    ("orient 1", OUT_STAR, b"unsuited kind\n", 6),
+    // A graph that needs no edge, and one node, which is connected and has nothing to orient.
+    (
+        "augment 2",
+        TRIANGLE,
+        b"certificate 1\ncommand augment 2\nvalue 0\ndual subpartition\nend\n",
+        0,
+    ),
+    (
+        "augment 1",
+        ONE_NODE,
+        b"certificate 1\ncommand augment 1\nvalue 0\ndual components\nset a\nend\n",
+        0,
+    ),
+    (
+        "orient 3",
+        ONE_NODE,
+        b"certificate 1\ncommand orient 3\nend\n",
+        0,
     ),
     // One node has no edge to cover, and is a cut tree with no pair.
     (

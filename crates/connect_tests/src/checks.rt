@@ -1,4 +1,4 @@
-use crate::examples::{ARCS, K4, PATH, SQUARE};
+use crate::examples::{ARCS, EDGE, K4, OUT_STAR, PATH, SQUARE, TRIANGLE};
 use crate::run::{answer, joined, same};
 use std::alloc::Global;
 use std::process::Abort;
@@ -7,7 +7,7 @@ use std::test::Fail;
 // A graph, what follows it, the answer and the exit number.
 type Row<'a> = (&'a [u8], &'a [u8], &'a [u8], u8);
 
-const CHECKS: [Row<'static>; 23] = [
+const CHECKS: [Row<'static>; 22] = [
     (
         SQUARE,
         b"certificate 1\ncommand flow a d\nvalue 2\npath 1 2\npath 3 4\ndual cut\nset a\nend\n",
@@ -86,15 +86,9 @@ const CHECKS: [Row<'static>; 23] = [
         b"rejected infeasible\n",
         2,
     ),
-    // A command that isn't checked yet, and one that doesn't suit the graph.
+    // A command that isn't checked yet.
     (
-        PATH,
-        b"certificate 1\ncommand augment 2\nvalue 1\nedge a c\ndual subpartition\nset a\nset c\nend\n",
-        b"rejected malformed 2\n",
-        2,
-    ),
-    (
-        PATH,
+        ARCS,
         b"certificate 1\ncommand dijoin\nvalue 0\njoin\ndual dicuts\nend\n",
         b"rejected malformed 2\n",
         2,
@@ -151,7 +145,260 @@ const CHECKS: [Row<'static>; 23] = [
     ),
 ];
 
-const CHANGED: [Row<'static>; 10] = [
+const AUGMENTED: [Row<'static>; 24] = [
+    (
+        PATH,
+        b"certificate 1\ncommand augment 2\nvalue 1\nedge a c\ndual subpartition\nset a\nset c\nend\n",
+        b"accepted\n",
+        0,
+    ),
+    (
+        PATH,
+        b"certificate 1\ncommand augment 2\nvalue 1\nedge c a\ndual subpartition\nset c\nset a\nend\n",
+        b"accepted\n",
+        0,
+    ),
+    // Half of 1 is rounded up.
+    (
+        PATH,
+        b"certificate 1\ncommand augment 2\nvalue 1\nedge a c\ndual subpartition\nset a b\nend\n",
+        b"accepted\n",
+        0,
+    ),
+    // Sides that share a node, the set of all nodes, and a set twice.
+    (
+        PATH,
+        b"certificate 1\ncommand augment 2\nvalue 1\nedge a c\ndual subpartition\nset a b\nset b c\nend\n",
+        b"rejected dual\n",
+        2,
+    ),
+    (
+        PATH,
+        b"certificate 1\ncommand augment 2\nvalue 1\nedge a c\ndual subpartition\nset a b c\nend\n",
+        b"rejected dual\n",
+        2,
+    ),
+    (
+        PATH,
+        b"certificate 1\ncommand augment 2\nvalue 1\nedge a c\ndual subpartition\nset a\nset a\nend\n",
+        b"rejected dual\n",
+        2,
+    ),
+    // An edge too many, too few, and one between a node and itself.
+    (
+        PATH,
+        b"certificate 1\ncommand augment 2\nvalue 2\nedge a c\nedge a c\ndual subpartition\nset a\nset c\nend\n",
+        b"rejected gap\n",
+        2,
+    ),
+    (
+        PATH,
+        b"certificate 1\ncommand augment 2\nvalue 0\ndual subpartition\nend\n",
+        b"rejected infeasible\n",
+        2,
+    ),
+    (
+        PATH,
+        b"certificate 1\ncommand augment 2\nvalue 1\nedge a a\ndual subpartition\nset a\nset c\nend\n",
+        b"rejected infeasible\n",
+        2,
+    ),
+    // No end line, nodes in another order than the graph, another dual, and a number that is too large.
+    (
+        PATH,
+        b"certificate 1\ncommand augment 2\nvalue 1\nedge a c\ndual subpartition\nset a\nset c\n",
+        b"rejected malformed 8\n",
+        2,
+    ),
+    (
+        PATH,
+        b"certificate 1\ncommand augment 2\nvalue 1\nedge a c\ndual subpartition\nset c a\nset c\nend\n",
+        b"rejected malformed 6\n",
+        2,
+    ),
+    (
+        PATH,
+        b"certificate 1\ncommand augment 2\nvalue 1\nedge a c\ndual components\nset a\nset c\nend\n",
+        b"rejected malformed 5\n",
+        2,
+    ),
+    (
+        PATH,
+        b"certificate 1\ncommand augment 33\nvalue 1\nedge a c\ndual subpartition\nset a\nset c\nend\n",
+        b"rejected malformed 2\n",
+        2,
+    ),
+    // Nothing behind the graph, and an ask that doesn't suit it.
+    (PATH, b"", b"rejected malformed 1\n", 2),
+    (
+        PATH,
+        b"certificate 1\ncommand augment-arcs 1\nvalue 0\ndual in\nend\n",
+        b"rejected malformed 2\n",
+        2,
+    ),
+    // Components: the one class of the path, classes that an edge joins, and a class that misses a node.
+    (
+        PATH,
+        b"certificate 1\ncommand augment 1\nvalue 0\ndual components\nset a b c\nend\n",
+        b"accepted\n",
+        0,
+    ),
+    (
+        PATH,
+        b"certificate 1\ncommand augment 1\nvalue 0\ndual components\nset a b\nset c\nend\n",
+        b"rejected dual\n",
+        2,
+    ),
+    (
+        PATH,
+        b"certificate 1\ncommand augment 1\nvalue 0\ndual components\nset a b\nend\n",
+        b"rejected dual\n",
+        2,
+    ),
+    // New arcs: sides that too few leave count for `out`, and those that too few enter for `in`.
+    (
+        OUT_STAR,
+        b"certificate 1\ncommand augment-arcs 1\nvalue 2\narc b a\narc c a\ndual out\nset b\nset c\nend\n",
+        b"accepted\n",
+        0,
+    ),
+    (
+        OUT_STAR,
+        b"certificate 1\ncommand augment-arcs 1\nvalue 2\narc b c\narc c a\ndual out\nset c\nset b\nend\n",
+        b"accepted\n",
+        0,
+    ),
+    (
+        OUT_STAR,
+        b"certificate 1\ncommand augment-arcs 1\nvalue 2\narc b a\narc c a\ndual in\nset b\nset c\nend\n",
+        b"rejected gap\n",
+        2,
+    ),
+    (
+        OUT_STAR,
+        b"certificate 1\ncommand augment-arcs 1\nvalue 2\narc b a\narc c a\ndual out\nset b\nset b c\nend\n",
+        b"rejected dual\n",
+        2,
+    ),
+    (
+        OUT_STAR,
+        b"certificate 1\ncommand augment-arcs 1\nvalue 2\narc a b\narc c a\ndual out\nset b\nset c\nend\n",
+        b"rejected infeasible\n",
+        2,
+    ),
+    (
+        OUT_STAR,
+        b"certificate 1\ncommand augment-arcs 1\nvalue 2\narc b a\narc c a\ndual cut\nset b\nset c\nend\n",
+        b"rejected malformed 6\n",
+        2,
+    ),
+];
+
+const ORIENTED: [Row<'static>; 16] = [
+    (
+        TRIANGLE,
+        b"certificate 1\ncommand orient 1\narc a b\narc b c\narc c a\nend\n",
+        b"accepted\n",
+        0,
+    ),
+    (
+        TRIANGLE,
+        b"certificate 1\ncommand orient 1\narc b a\narc c b\narc a c\nend\n",
+        b"accepted\n",
+        0,
+    ),
+    // An arc turned, so that none leaves c.
+    (
+        TRIANGLE,
+        b"certificate 1\ncommand orient 1\narc a b\narc b c\narc a c\nend\n",
+        b"rejected infeasible\n",
+        2,
+    ),
+    // Ends of another edge, an arc too few, and one too many.
+    (
+        TRIANGLE,
+        b"certificate 1\ncommand orient 1\narc a c\narc b c\narc c a\nend\n",
+        b"rejected malformed 3\n",
+        2,
+    ),
+    (
+        TRIANGLE,
+        b"certificate 1\ncommand orient 1\narc a b\narc b c\nend\n",
+        b"rejected malformed 5\n",
+        2,
+    ),
+    (
+        TRIANGLE,
+        b"certificate 1\ncommand orient 1\narc a b\narc b c\narc c a\narc c a\nend\n",
+        b"rejected malformed 6\n",
+        2,
+    ),
+    // Sides that forbid nothing: two edges leave one, and two aren't proper.
+    (
+        TRIANGLE,
+        b"certificate 1\ncommand orient 1\nimpossible\ndual cut\nset a\nend\n",
+        b"rejected dual\n",
+        2,
+    ),
+    (
+        TRIANGLE,
+        b"certificate 1\ncommand orient 1\nimpossible\ndual cut\nset a b c\nend\n",
+        b"rejected dual\n",
+        2,
+    ),
+    (
+        TRIANGLE,
+        b"certificate 1\ncommand orient 1\nimpossible\ndual cut\nset\nend\n",
+        b"rejected dual\n",
+        2,
+    ),
+    // One edge leaves a side, or two.
+    (
+        PATH,
+        b"certificate 1\ncommand orient 1\nimpossible\ndual cut\nset a\nend\n",
+        b"accepted\n",
+        0,
+    ),
+    (
+        PATH,
+        b"certificate 1\ncommand orient 1\nimpossible\ndual cut\nset b c\nend\n",
+        b"accepted\n",
+        0,
+    ),
+    (
+        PATH,
+        b"certificate 1\ncommand orient 1\nimpossible\ndual cut\nset b\nend\n",
+        b"rejected dual\n",
+        2,
+    ),
+    (
+        PATH,
+        b"certificate 1\ncommand orient 1\narc a b\narc b c\nend\n",
+        b"rejected infeasible\n",
+        2,
+    ),
+    (
+        PATH,
+        b"certificate 1\ncommand orient 1\nimpossible\ndual dicut\nset a\nend\n",
+        b"rejected malformed 4\n",
+        2,
+    ),
+    // A head that the command doesn't have, and one arc each way, which isn't two.
+    (
+        PATH,
+        b"certificate 1\ncommand orient 1\nvalue 2\narc a b\narc b c\nend\n",
+        b"rejected malformed 3\n",
+        2,
+    ),
+    (
+        K4,
+        b"certificate 1\ncommand orient 2\narc a b\narc c a\narc a d\narc b c\narc b d\narc c d\nend\n",
+        b"rejected infeasible\n",
+        2,
+    ),
+];
+
+const CHANGED: [Row<'static>; 13] = [
     // As it was answered, and with the paths exchanged.
     (
         SQUARE,
@@ -204,6 +451,25 @@ const CHANGED: [Row<'static>; 10] = [
         b"rejected dual\n",
         2,
     ),
+    // The same of new edges, and the largest number.
+    (
+        PATH,
+        b"certificate 1\r\ncommand augment 2\r\nvalue 1\r\nedge a c\r\ndual subpartition\r\nset a\r\nset c\r\nend\r\n",
+        b"rejected malformed 1\n",
+        2,
+    ),
+    (
+        PATH,
+        b"certificate 1\ncommand augment 2\nvalue 1\nedge a c\ndual subpartition\nset a\nset c\nend\n\n",
+        b"rejected malformed 9\n",
+        2,
+    ),
+    (
+        PATH,
+        b"certificate 1\ncommand augment 2\nvalue 18446744073709551615\nedge a c\ndual subpartition\nset a\nset c\nend\n",
+        b"rejected gap\n",
+        2,
+    ),
     // The least number that is none, and the largest.
     (
         SQUARE,
@@ -230,6 +496,16 @@ fn are_checked(rt: &impl Abort, alloc: Global, rows: &[Row<'_>]) -> Result<(), F
 #[test]
 fn certificates_are_accepted_or_rejected(rt: HostRuntime) -> Result<(), Fail> {
     are_checked(&rt, rt.alloc(), &CHECKS)
+}
+
+#[test]
+fn certificates_of_augmentations_are_accepted_or_rejected(rt: HostRuntime) -> Result<(), Fail> {
+    are_checked(&rt, rt.alloc(), &AUGMENTED)
+}
+
+#[test]
+fn certificates_of_orientations_are_accepted_or_rejected(rt: HostRuntime) -> Result<(), Fail> {
+    are_checked(&rt, rt.alloc(), &ORIENTED)
 }
 
 #[test]
@@ -260,14 +536,26 @@ fn is_cut_off(rt: &impl Abort, alloc: Global, graph: &[u8], whole: &[u8]) -> Res
     Ok(())
 }
 
+fn are_cut_off(rt: &impl Abort, alloc: Global, rows: &[(&str, &[u8])]) -> Result<(), Fail> {
+    for (words, graph) in rows {
+        let (certificate, _) = answer(alloc, words, graph)?;
+        is_cut_off(rt, alloc, graph, &joined(alloc, graph, &certificate)?)?;
+    }
+    Ok(())
+}
+
 #[test]
 fn a_certificate_that_is_cut_off_goes_on_at_its_first_missing_line(
     rt: HostRuntime,
 ) -> Result<(), Fail> {
-    let alloc = rt.alloc();
-    for (words, graph) in [("flow a d", SQUARE), ("trees", K4), ("forests", K4)] {
-        let (certificate, _) = answer(alloc, words, graph)?;
-        is_cut_off(&rt, alloc, graph, &joined(alloc, graph, &certificate)?)?;
-    }
-    Ok(())
+    let rows: [(&str, &[u8]); 3] = [("flow a d", SQUARE), ("trees", K4), ("forests", K4)];
+    are_cut_off(&rt, rt.alloc(), &rows)
+}
+
+#[test]
+fn an_augmentation_or_orientation_that_is_cut_off_goes_on_at_its_first_missing_line(
+    rt: HostRuntime,
+) -> Result<(), Fail> {
+    let rows: [(&str, &[u8]); 2] = [("augment 2", PATH), ("orient 1", EDGE)];
+    are_cut_off(&rt, rt.alloc(), &rows)
 }

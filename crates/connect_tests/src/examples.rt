@@ -9,6 +9,16 @@ pub const BACKBONE: &[u8] =
 
 pub const PATH: &[u8] = b"graph undirected\nnode a\nnode b\nnode c\nedge a b\nedge b c\nend\n";
 
+pub const TRIANGLE: &[u8] =
+    b"graph undirected\nnode a\nnode b\nnode c\nedge a b\nedge b c\nedge a c\nend\n";
+
+pub const ONE_NODE: &[u8] = b"graph undirected\nnode a\nend\n";
+
+pub const EDGE: &[u8] = b"graph undirected\nnode a\nnode b\nedge a b\nend\n";
+
+/// Two arcs out of one node.
+pub const OUT_STAR: &[u8] = b"graph directed\nnode a\nnode b\nnode c\narc a b\narc a c\nend\n";
+
 pub const ARCS: &[u8] =
     b"graph directed\nnode a\nnode b\nnode c\narc a b\narc b a\narc b c\narc a c\narc c b\nend\n";
 

@@ -1,11 +1,8 @@
-use crate::examples::{ARCS, BACKBONE, K4, PATH, SQUARE};
+use crate::examples::{ARCS, BACKBONE, EDGE, K4, ONE_NODE, OUT_STAR, PATH, SQUARE, TRIANGLE};
 use crate::run::{answer, joined, same};
 use std::alloc::Global;
 use std::process::Abort;
 use std::test::Fail;
-
-const TRIANGLE: &[u8] =
-    b"graph undirected\nnode a\nnode b\nnode c\nedge a b\nedge b c\nedge a c\nend\n";
 
 const PARALLEL: &[u8] = b"graph undirected\nnode a\nnode b\nedge a b\nedge a b\nedge a b\nend\n";
 
@@ -28,8 +25,20 @@ const COMPLETE: &[u8] =
 
 const UNREACHED: &[u8] = b"graph directed\nnode a\nnode b\nnode c\narc a b\narc c b\nend\n";
 
+const THREE_ALONE: &[u8] = b"graph undirected\nnode a\nnode b\nnode c\nend\n";
+
+const FOUR_ALONE: &[u8] = b"graph undirected\nnode a\nnode b\nnode c\nnode d\nend\n";
+
+const TWO_ALONE: &[u8] = b"graph directed\nnode a\nnode b\nend\n";
+
+/// The complete graph on five nodes.
+const K5: &[u8] =
+    b"graph undirected\nnode a\nnode b\nnode c\nnode d\nnode e\nedge a b\nedge a c\nedge a d\nedge a e\nedge b c\nedge b d\nedge b e\nedge c d\nedge c e\nedge d e\nend\n";
+
 // A command, a graph and how the answer begins behind the command's line.
-const SOLVED: [(&str, &[u8], &[u8]); 26] = [
+type Row<'a> = (&'a str, &'a [u8], &'a [u8]);
+
+const SOLVED: [Row<'static>; 26] = [
     ("flow s1 s4", BACKBONE, b"value 3\npath "),
     ("cuttree", BACKBONE, b"tree "),
     ("flow a d", SQUARE, b"value 2\npath "),
@@ -62,13 +71,47 @@ const SOLVED: [(&str, &[u8], &[u8]); 26] = [
     ("forests", APART, b"value 1\npart "),
 ];
 
-fn are_accepted(rt: &impl Abort, alloc: Global, rows: &[(&str, &[u8], &[u8])]) -> Result<(), Fail> {
+// New edges, new arcs and orientations.
+const CONNECTED: [Row<'static>; 17] = [
+    ("augment 2", PATH, b"value 1\nedge "),
+    ("augment 3", THREE_ALONE, b"value 5\nedge "),
+    ("augment 1", FOUR_ALONE, b"value 3\nedge "),
+    ("augment 1", APART, b"value 1\nedge "),
+    ("augment 3", BACKBONE, b"value 2\nedge "),
+    ("augment 2", TRIANGLE, b"value 0\ndual subpartition\nend\n"),
+    (
+        "augment 1",
+        ONE_NODE,
+        b"value 0\ndual components\nset a\nend\n",
+    ),
+    ("augment-arcs 1", OUT_STAR, b"value 2\narc "),
+    ("augment-arcs 2", TWO_ALONE, b"value 4\narc "),
+    ("augment-arcs 2", COMPLETE, b"value 0\ndual "),
+    ("orient 2", K5, b"arc "),
+    ("orient 1", K5, b"arc "),
+    // Each degree is odd.
+    ("orient 1", K4, b"arc "),
+    ("orient 1", TRIANGLE, b"arc "),
+    ("orient 1", PARALLEL, b"arc "),
+    ("orient 1", BACKBONE, b"arc "),
+    ("orient 3", ONE_NODE, b"end\n"),
+];
+
+// Graphs with a side of too few edges, so that no orientation enters and leaves each side.
+const DENIED: [Row<'static>; 4] = [
+    ("orient 1", EDGE, b"impossible\ndual cut\nset "),
+    ("orient 1", PATH, b"impossible\ndual cut\nset "),
+    ("orient 2", K4, b"impossible\ndual cut\nset "),
+    ("orient 2", PARALLEL, b"impossible\ndual cut\nset "),
+];
+
+fn are_accepted(rt: &impl Abort, alloc: Global, rows: &[Row<'_>], number: u8) -> Result<(), Fail> {
     for (words, graph, start) in rows {
         let front = format!(in alloc; "certificate 1\ncommand {words}\n")?;
         let front = joined(alloc, front.as_bytes(), start)?;
         let (certificate, status) = answer(alloc, words, graph)?;
         let begins = certificate.starts_with(&front);
-        same(rt, &(begins, status), &(true, 0), words);
+        same(rt, &(begins, status), &(true, number), words);
         let (written, status) = answer(alloc, "check", &joined(alloc, graph, &certificate)?)?;
         let want = (b"accepted\n".as_slice(), 0);
         same(rt, &(written.as_slice(), status), &want, words);
@@ -78,5 +121,64 @@ fn are_accepted(rt: &impl Abort, alloc: Global, rows: &[(&str, &[u8], &[u8])]) -
 
 #[test]
 fn answers_are_found_and_accepted(rt: HostRuntime) -> Result<(), Fail> {
-    are_accepted(&rt, rt.alloc(), &SOLVED)
+    are_accepted(&rt, rt.alloc(), &SOLVED, 0)
+}
+
+#[test]
+fn augmentations_and_orientations_are_found_and_accepted(rt: HostRuntime) -> Result<(), Fail> {
+    are_accepted(&rt, rt.alloc(), &CONNECTED, 0)
+}
+
+#[test]
+fn sides_that_forbid_an_orientation_are_found_and_accepted(rt: HostRuntime) -> Result<(), Fail> {
+    are_accepted(&rt, rt.alloc(), &DENIED, 1)
+}
+
+// A command, a graph and lines of each right answer, which may stand in another order.
+const LINES: [(&str, &[u8], &[&[u8]]); 4] = [
+    (
+        "augment 1",
+        FOUR_ALONE,
+        &[
+            b"dual components\n",
+            b"\nset a\n",
+            b"\nset b\n",
+            b"\nset c\n",
+            b"\nset d\n",
+        ],
+    ),
+    (
+        "augment-arcs 1",
+        OUT_STAR,
+        &[b"\ndual out\n", b"\nset b\n", b"\nset c\n"],
+    ),
+    ("augment-arcs 2", TWO_ALONE, &[b"\nset a\n", b"\nset b\n"]),
+    ("orient 1", PARALLEL, &[b"\narc a b\n", b"\narc b a\n"]),
+];
+
+fn holds(text: &[u8], part: &[u8]) -> bool {
+    for start in 0..text.len() {
+        if text[start..].starts_with(part) {
+            return true;
+        }
+    }
+    false
+}
+
+fn hold_lines(
+    rt: &impl Abort,
+    alloc: Global,
+    rows: &[(&str, &[u8], &[&[u8]])],
+) -> Result<(), Fail> {
+    for (words, graph, lines) in rows {
+        let (certificate, _) = answer(alloc, words, graph)?;
+        let all = lines.iter().all(|line| holds(&certificate, line));
+        same(rt, &all, &true, words);
+    }
+    Ok(())
+}
+
+#[test]
+fn lines_that_each_right_answer_has_are_written(rt: HostRuntime) -> Result<(), Fail> {
+    hold_lines(&rt, rt.alloc(), &LINES)
 }

@@ -1,3 +1,4 @@
+use crate::examples::{EDGE, OUT_STAR, PATH, TRIANGLE};
 use crate::run::{Sizes, run, same};
 use connect_run::Status;
 use std::alloc::Global;
@@ -47,15 +48,16 @@ fn faults_of_source_and_sink_are_told(rt: HostRuntime) -> Result<(), Fail> {
 const PLAN: [bool; 5] = [false, false, false, false, true];
 
 // Words and input, of each command and of each kind of answer.
-const RUNS: [(&str, &[u8]); 10] = [
+const RUNS: [(&str, &[u8]); 14] = [
     ("flow a b", INPUT),
     ("flow a a", INPUT),
     ("cuttree", INPUT),
     ("forests", INPUT),
-    (
-        "trees",
-        b"graph undirected\nnode a\nnode b\nedge a b\nend\n",
-    ),
+    ("trees", EDGE),
+    ("augment 2", PATH),
+    ("augment-arcs 1", OUT_STAR),
+    ("orient 1", TRIANGLE),
+    ("orient 1", EDGE),
     (
         "arborescences a",
         b"graph directed\nnode a\nnode b\narc a b\nend\n",

@@ -1,25 +1,26 @@
--- Commands, and the slots behind their first words.
+-- Commands, and the blanks behind their first words.
 use Rattle.std.proofs.Common.{◌≡◌, ℕ, ◌^◌, ◌-◌, ◌<◌, ◌≤◌, List, [], ◌∷◌, Some, refl, sym, ◌∙◌, ap, subst, arith}
 use Rattle.std.specs.Fmt.{decimal}
 use Rattle.problem_defs.specs.Ask.{IsK}
 use Rattle.connect_words.specs.declared.command.Command.{Command}
 use Rattle.connect_words.specs.declared.command.Command.TheVariants.{Flow, CutTree, Augment, AugmentArcs, Arborescences, Trees, Forests, Orient, Dijoin, Check, Trial}
 use Rattle.connect_words.specs.declared.command.TrialKind.{TrialKind}
-use Rattle.connect_words.specs.declared.slot.Verb.{Verb}
-use Rattle.connect_words.specs.declared.slot.Verb.TheVariants as verb
-use Rattle.connect_words.specs.declared.slot.Slot.{Slot}
-use Rattle.connect_words.specs.declared.slot.Slot.TheVariants.{Name, Kind, K, Nodes, Number}
+use Rattle.connect_words.specs.declared.blank.FirstWord.{FirstWord}
+use Rattle.connect_words.specs.declared.blank.FirstWord.TheVariants as first
+use Rattle.problem_defs.specs.declared.verb.Verb.TheVariants as verb
+use Rattle.connect_words.specs.declared.blank.Blank.{Blank}
+use Rattle.connect_words.specs.declared.blank.Blank.TheVariants.{Name, Kind, K, Nodes, Number}
 use Rattle.connect_words.specs.Commands.{Place, word, name, Stands, Fill, Writes, IsNodes, IsNumber, kind_word, places}
-use Rattle.connect_words.specs.Slots.{Suits, SuitAll, slots, verb_word, verb_of, Reads}
+use Rattle.connect_words.specs.Blanks.{MayStand, AllMayStand, blanks, first_word, first_of, Reads}
 
--- what stands at a place suits the slot
-abbrev Covers : List Slot → List Place → Type 0
+-- what stands at a place may stand in the blank
+abbrev Covers : List Blank → List Place → Type 0
 Covers [] [] = Unit {0}
 Covers [] (place ∷ places) = ⊥
-Covers (slot ∷ slots) [] = ⊥
-Covers (slot ∷ slots) (place ∷ places) = ((given : List ℕ) → Stands place given → Suits slot given) × Covers slots places
+Covers (blank ∷ blanks) [] = ⊥
+Covers (blank ∷ blanks) (place ∷ places) = ((given : List ℕ) → Stands place given → MayStand blank given) × Covers blanks places
 
-suit_all : (ss : List Slot) (ps : List Place) (ws : List (List ℕ)) → Covers ss ps → Fill ps ws → SuitAll ss ws
+suit_all : (ss : List Blank) (ps : List Place) (ws : List (List ℕ)) → Covers ss ps → Fill ps ws → AllMayStand ss ws
 suit_all [] [] [] covers fill = tt
 suit_all [] [] (w ∷ ws) covers fill = fill
 suit_all [] (p ∷ ps) ws covers fill = absurd covers
@@ -27,59 +28,55 @@ suit_all (s ∷ ss) [] ws covers fill = absurd covers
 suit_all (s ∷ ss) (p ∷ ps) [] covers fill = fill
 suit_all (s ∷ ss) (p ∷ ps) (w ∷ ws) covers fill = (covers.0 w fill.0, suit_all ss ps ws covers.1 fill.1)
 
-no_name : (ws : List (List ℕ)) → Fill [] ws → SuitAll [] ws
+no_name : (ws : List (List ℕ)) → Fill [] ws → AllMayStand [] ws
 no_name ws = suit_all [] [] ws tt
 
-one_name : (ws : List (List ℕ)) → Fill (name ∷ []) ws → SuitAll (Name ∷ []) ws
+one_name : (ws : List (List ℕ)) → Fill (name ∷ []) ws → AllMayStand (Name ∷ []) ws
 one_name ws = suit_all (Name ∷ []) (name ∷ []) ws ((λ given h. tt), tt)
 
-two_names : (ws : List (List ℕ)) → Fill (name ∷ name ∷ []) ws → SuitAll (Name ∷ Name ∷ []) ws
+two_names : (ws : List (List ℕ)) → Fill (name ∷ name ∷ []) ws → AllMayStand (Name ∷ Name ∷ []) ws
 two_names ws = suit_all (Name ∷ Name ∷ []) (name ∷ name ∷ []) ws ((λ given h. tt), ((λ given h. tt), tt))
 
-one_number : (k : ℕ) (ws : List (List ℕ)) → IsK k → Fill (word (decimal k) ∷ []) ws → SuitAll (K ∷ []) ws
+one_number : (k : ℕ) (ws : List (List ℕ)) → IsK k → Fill (word (decimal k) ∷ []) ws → AllMayStand (K ∷ []) ws
 one_number k ws limits = suit_all (K ∷ []) (word (decimal k) ∷ []) ws ((λ given h. (k, limits, h)), tt)
 
-of_trial : (kind : TrialKind) (nodes number : ℕ) (ws : List (List ℕ)) → IsNodes nodes × IsNumber number → Fill (word (kind_word kind) ∷ word (decimal nodes) ∷ word (decimal number) ∷ []) ws → SuitAll (Kind ∷ Nodes ∷ Number ∷ []) ws
+of_trial : (kind : TrialKind) (nodes number : ℕ) (ws : List (List ℕ)) → IsNodes nodes × IsNumber number → Fill (word (kind_word kind) ∷ word (decimal nodes) ∷ word (decimal number) ∷ []) ws → AllMayStand (Kind ∷ Nodes ∷ Number ∷ []) ws
 of_trial kind nodes number ws limits =
     suit_all (Kind ∷ Nodes ∷ Number ∷ []) (word (kind_word kind) ∷ word (decimal nodes) ∷ word (decimal number) ∷ []) ws
     ((λ given h. (kind, h)), ((λ given h. (nodes, limits.0, h)), ((λ given h. (number, limits.1, h)), tt)))
 
--- the words of a command: its first word, and words that suit the slots
-pub writes_slots : (command : Command) (w : List ℕ) (ws : List (List ℕ)) → Writes command (w ∷ ws) → (w ≡ verb_word (verb_of command)) × SuitAll (slots (verb_of command)) ws
-writes_slots Flow w ws h = (h.fill.0, two_names ws h.fill.1)
-writes_slots CutTree w ws h = (h.fill.0, no_name ws h.fill.1)
-writes_slots (Augment k) w ws h = (h.fill.0, one_number k ws h.limits h.fill.1)
-writes_slots (AugmentArcs k) w ws h = (h.fill.0, one_number k ws h.limits h.fill.1)
-writes_slots Arborescences w ws h = (h.fill.0, one_name ws h.fill.1)
-writes_slots Trees w ws h = (h.fill.0, no_name ws h.fill.1)
-writes_slots Forests w ws h = (h.fill.0, no_name ws h.fill.1)
-writes_slots (Orient k) w ws h = (h.fill.0, one_number k ws h.limits h.fill.1)
-writes_slots Dijoin w ws h = (h.fill.0, no_name ws h.fill.1)
-writes_slots Check w ws h = (h.fill.0, no_name ws h.fill.1)
-writes_slots (Trial kind nodes number) w ws h = (h.fill.0, of_trial kind nodes number ws h.limits h.fill.1)
+-- the words of a command: its first word, and words that may stand in the blanks
+pub writes_blanks : (command : Command) (w : List ℕ) (ws : List (List ℕ)) → Writes command (w ∷ ws) → (w ≡ first_word (first_of command)) × AllMayStand (blanks (first_of command)) ws
+writes_blanks Flow w ws h = (h.fill.0, two_names ws h.fill.1)
+writes_blanks Arborescences w ws h = (h.fill.0, one_name ws h.fill.1)
+writes_blanks (Augment k) w ws h = (h.fill.0, one_number k ws h.limits h.fill.1)
+writes_blanks (AugmentArcs k) w ws h = (h.fill.0, one_number k ws h.limits h.fill.1)
+writes_blanks (Orient k) w ws h = (h.fill.0, one_number k ws h.limits h.fill.1)
+writes_blanks (Trial kind nodes number) w ws h = (h.fill.0, of_trial kind nodes number ws h.limits h.fill.1)
+writes_blanks command w ws h = (h.fill.0, no_name ws h.fill.1)
 
-nothing : (ws : List (List ℕ)) → SuitAll [] ws → Fill [] ws
+nothing : (ws : List (List ℕ)) → AllMayStand [] ws → Fill [] ws
 nothing [] h = tt
 nothing (w ∷ ws) h = h
 
-a_name : (ws : List (List ℕ)) → SuitAll (Name ∷ []) ws → Fill (name ∷ []) ws
+a_name : (ws : List (List ℕ)) → AllMayStand (Name ∷ []) ws → Fill (name ∷ []) ws
 a_name [] h = h
 a_name (w ∷ ws) h = (tt, nothing ws h.1)
 
-names : (ws : List (List ℕ)) → SuitAll (Name ∷ Name ∷ []) ws → Fill (name ∷ name ∷ []) ws
+names : (ws : List (List ℕ)) → AllMayStand (Name ∷ Name ∷ []) ws → Fill (name ∷ name ∷ []) ws
 names [] h = h
 names (w ∷ ws) h = (tt, a_name ws h.1)
 
 fits_number : (low high n : ℕ) → high < 2 ^ 32 → (low ≤ n) × (n ≤ high) → n < 2 ^ 32
 fits_number low high n small h = omega (arith, h.0, h.1, small)
 
-a_k : (k : ℕ) (v : List ℕ) (ws : List (List ℕ)) → SuitAll (K ∷ []) ws → Reads (v ∷ ws) (Augment k) → IsK k × Fill (word (decimal k) ∷ []) ws
+a_k : (k : ℕ) (v : List ℕ) (ws : List (List ℕ)) → AllMayStand (K ∷ []) ws → Reads (v ∷ ws) (Augment k) → IsK k × Fill (word (decimal k) ∷ []) ws
 a_k k v [] h reads = absurd h
 a_k k v (w ∷ ws) ((n, limits, same), rest) reads =
     let e : k ≡ n = reads n (fits_number 1 32 n (omega arith) limits) (ap Some same) in
     (subst IsK (sym e) limits, (same ∙ ap decimal (sym e), nothing ws rest))
 
-the_trial : (kind : TrialKind) (nodes number : ℕ) (v : List ℕ) (ws : List (List ℕ)) → SuitAll (Kind ∷ Nodes ∷ Number ∷ []) ws → Reads (v ∷ ws) (Trial kind nodes number) → (IsNodes nodes × IsNumber number) × Fill (word (kind_word kind) ∷ word (decimal nodes) ∷ word (decimal number) ∷ []) ws
+the_trial : (kind : TrialKind) (nodes number : ℕ) (v : List ℕ) (ws : List (List ℕ)) → AllMayStand (Kind ∷ Nodes ∷ Number ∷ []) ws → Reads (v ∷ ws) (Trial kind nodes number) → (IsNodes nodes × IsNumber number) × Fill (word (kind_word kind) ∷ word (decimal nodes) ∷ word (decimal number) ∷ []) ws
 the_trial kind nodes number v [] h reads = absurd h
 the_trial kind nodes number v (a ∷ []) h reads = absurd h.1
 the_trial kind nodes number v (a ∷ b ∷ []) h reads = absurd h.1.1
@@ -89,37 +86,33 @@ the_trial kind nodes number v (a ∷ b ∷ c ∷ ws) ((k, is_k), ((n, few, is_n)
     let em : number ≡ m = seeds m (fits_number 0 (2 ^ 32 - 1) m (omega arith) fits) (ap Some is_m) in
     ((subst IsNodes (sym en) few, subst IsNumber (sym em) fits), (is_k ∙ ap kind_word (sym ek), (is_n ∙ ap decimal (sym en), (is_m ∙ ap decimal (sym em), nothing ws rest))))
 
--- words that suit the slots of a command, and whose kind and numbers it has, write it
-pub slots_write : (command : Command) (ws : List (List ℕ)) → SuitAll (slots (verb_of command)) ws → Reads (verb_word (verb_of command) ∷ ws) command → Writes command (verb_word (verb_of command) ∷ ws)
-slots_write Flow ws h reads = record { limits = tt; fill = (refl, names ws h) }
-slots_write CutTree ws h reads = record { limits = tt; fill = (refl, nothing ws h) }
-slots_write (Augment k) ws h reads = let (limits, fill) = a_k k (verb_word verb.Augment) ws h reads in record { limits = limits; fill = (refl, fill) }
-slots_write (AugmentArcs k) ws h reads = let (limits, fill) = a_k k (verb_word verb.AugmentArcs) ws h reads in record { limits = limits; fill = (refl, fill) }
-slots_write Arborescences ws h reads = record { limits = tt; fill = (refl, a_name ws h) }
-slots_write Trees ws h reads = record { limits = tt; fill = (refl, nothing ws h) }
-slots_write Forests ws h reads = record { limits = tt; fill = (refl, nothing ws h) }
-slots_write (Orient k) ws h reads = let (limits, fill) = a_k k (verb_word verb.Orient) ws h reads in record { limits = limits; fill = (refl, fill) }
-slots_write Dijoin ws h reads = record { limits = tt; fill = (refl, nothing ws h) }
-slots_write Check ws h reads = record { limits = tt; fill = (refl, nothing ws h) }
-slots_write (Trial kind nodes number) ws h reads = let (limits, fill) = the_trial kind nodes number (verb_word verb.Trial) ws h reads in record { limits = limits; fill = (refl, fill) }
+-- words that may stand in the blanks of a command, and whose kind and numbers it has, write it
+pub blanks_write : (command : Command) (ws : List (List ℕ)) → AllMayStand (blanks (first_of command)) ws → Reads (first_word (first_of command) ∷ ws) command → Writes command (first_word (first_of command) ∷ ws)
+blanks_write Flow ws h reads = record { limits = tt; fill = (refl, names ws h) }
+blanks_write Arborescences ws h reads = record { limits = tt; fill = (refl, a_name ws h) }
+blanks_write (Augment k) ws h reads = let (limits, fill) = a_k k (first_word (first.Asks verb.Augment)) ws h reads in record { limits = limits; fill = (refl, fill) }
+blanks_write (AugmentArcs k) ws h reads = let (limits, fill) = a_k k (first_word (first.Asks verb.AugmentArcs)) ws h reads in record { limits = limits; fill = (refl, fill) }
+blanks_write (Orient k) ws h reads = let (limits, fill) = a_k k (first_word (first.Asks verb.Orient)) ws h reads in record { limits = limits; fill = (refl, fill) }
+blanks_write (Trial kind nodes number) ws h reads = let (limits, fill) = the_trial kind nodes number (first_word first.Trial) ws h reads in record { limits = limits; fill = (refl, fill) }
+blanks_write command ws h reads = record { limits = tt; fill = (refl, nothing ws h) }
 
--- words that suit the slots behind a first word are those of a command
-pub some_command : (v : Verb) (ws : List (List ℕ)) → SuitAll (slots v) ws → (command : Command) × Writes command (verb_word v ∷ ws)
-some_command verb.Flow ws h = (Flow, record { limits = tt; fill = (refl, names ws h) })
-some_command verb.CutTree ws h = (CutTree, record { limits = tt; fill = (refl, nothing ws h) })
-some_command verb.Augment (w ∷ ws) ((n, limits, same), rest) = (Augment n, record { limits = limits; fill = (refl, (same, nothing ws rest)) })
-some_command verb.Augment [] h = absurd h
-some_command verb.AugmentArcs (w ∷ ws) ((n, limits, same), rest) = (AugmentArcs n, record { limits = limits; fill = (refl, (same, nothing ws rest)) })
-some_command verb.AugmentArcs [] h = absurd h
-some_command verb.Arborescences ws h = (Arborescences, record { limits = tt; fill = (refl, a_name ws h) })
-some_command verb.Trees ws h = (Trees, record { limits = tt; fill = (refl, nothing ws h) })
-some_command verb.Forests ws h = (Forests, record { limits = tt; fill = (refl, nothing ws h) })
-some_command verb.Orient (w ∷ ws) ((n, limits, same), rest) = (Orient n, record { limits = limits; fill = (refl, (same, nothing ws rest)) })
-some_command verb.Orient [] h = absurd h
-some_command verb.Dijoin ws h = (Dijoin, record { limits = tt; fill = (refl, nothing ws h) })
-some_command verb.Check ws h = (Check, record { limits = tt; fill = (refl, nothing ws h) })
-some_command verb.Trial (a ∷ b ∷ c ∷ ws) ((k, is_k), ((n, few, is_n), ((m, fits, is_m), rest))) =
+-- words that may stand in the blanks behind a first word are those of a command
+pub some_command : (v : FirstWord) (ws : List (List ℕ)) → AllMayStand (blanks v) ws → (command : Command) × Writes command (first_word v ∷ ws)
+some_command (first.Asks verb.Flow) ws h = (Flow, record { limits = tt; fill = (refl, names ws h) })
+some_command (first.Asks verb.CutTree) ws h = (CutTree, record { limits = tt; fill = (refl, nothing ws h) })
+some_command (first.Asks verb.Augment) (w ∷ ws) ((n, limits, same), rest) = (Augment n, record { limits = limits; fill = (refl, (same, nothing ws rest)) })
+some_command (first.Asks verb.Augment) [] h = absurd h
+some_command (first.Asks verb.AugmentArcs) (w ∷ ws) ((n, limits, same), rest) = (AugmentArcs n, record { limits = limits; fill = (refl, (same, nothing ws rest)) })
+some_command (first.Asks verb.AugmentArcs) [] h = absurd h
+some_command (first.Asks verb.Arborescences) ws h = (Arborescences, record { limits = tt; fill = (refl, a_name ws h) })
+some_command (first.Asks verb.Trees) ws h = (Trees, record { limits = tt; fill = (refl, nothing ws h) })
+some_command (first.Asks verb.Forests) ws h = (Forests, record { limits = tt; fill = (refl, nothing ws h) })
+some_command (first.Asks verb.Orient) (w ∷ ws) ((n, limits, same), rest) = (Orient n, record { limits = limits; fill = (refl, (same, nothing ws rest)) })
+some_command (first.Asks verb.Orient) [] h = absurd h
+some_command (first.Asks verb.Dijoin) ws h = (Dijoin, record { limits = tt; fill = (refl, nothing ws h) })
+some_command first.Check ws h = (Check, record { limits = tt; fill = (refl, nothing ws h) })
+some_command first.Trial (a ∷ b ∷ c ∷ ws) ((k, is_k), ((n, few, is_n), ((m, fits, is_m), rest))) =
     (Trial k n m, record { limits = (few, fits); fill = (refl, (is_k, (is_n, (is_m, nothing ws rest)))) })
-some_command verb.Trial [] h = absurd h
-some_command verb.Trial (a ∷ []) h = absurd h.1
-some_command verb.Trial (a ∷ b ∷ []) h = absurd h.1.1
+some_command first.Trial [] h = absurd h
+some_command first.Trial (a ∷ []) h = absurd h.1
+some_command first.Trial (a ∷ b ∷ []) h = absurd h.1.1

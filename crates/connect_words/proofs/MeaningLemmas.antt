@@ -8,15 +8,16 @@ use Rattle.problem_defs.specs.Ask.{IsK}
 use Rattle.connect_words.specs.declared.command.Command.{Command}
 use Rattle.connect_words.specs.declared.command.Command.TheVariants.{Flow, CutTree, Augment, AugmentArcs, Arborescences, Trees, Forests, Orient, Dijoin, Check, Trial}
 use Rattle.connect_words.specs.declared.command.TrialKind.{TrialKind}
-use Rattle.connect_words.specs.declared.slot.Verb.{Verb}
-use Rattle.connect_words.specs.declared.slot.Verb.TheVariants as verb
+use Rattle.connect_words.specs.declared.blank.FirstWord.{FirstWord}
+use Rattle.connect_words.specs.declared.blank.FirstWord.TheVariants as first
+use Rattle.problem_defs.specs.declared.verb.Verb.TheVariants as verb
 use Rattle.connect_words.specs.Commands.{Fill, word, Writes, kind_word, IsNodes, IsNumber}
 use Rattle.connect_words.specs.Places.{IsFirstBadPlace}
-use Rattle.connect_words.specs.Slots.{verb_of}
+use Rattle.connect_words.specs.Blanks.{first_of}
 use Rattle.connect_words.proofs.NumberLemmas.{own}
-use Rattle.connect_words.proofs.CommandLemmas.{writes_slots}
+use Rattle.connect_words.proofs.CommandLemmas.{writes_blanks}
 use Rattle.connect_words.proofs.PlaceLemmas.{writes_some}
-use Rattle.connect_words.proofs.VerbLemmas.{verb_word_injective, kind_named, kind_named-kind_word}
+use Rattle.connect_words.proofs.VerbLemmas.{first_word_injective, kind_named, kind_named-kind_word}
 
 -- the command of a first word and the words behind it
 abbrev with_number : (ℕ → Command) → List (List ℕ) → Command
@@ -29,18 +30,18 @@ with_trial (a ∷ []) = CutTree
 with_trial (a ∷ b ∷ []) = CutTree
 with_trial (a ∷ b ∷ c ∷ ws) = Trial (kind_named a) (digits_value 10 b) (digits_value 10 c)
 
-abbrev meant : Verb → List (List ℕ) → Command
-meant verb.Flow ws = Flow
-meant verb.CutTree ws = CutTree
-meant verb.Augment ws = with_number (λ k. Augment k) ws
-meant verb.AugmentArcs ws = with_number (λ k. AugmentArcs k) ws
-meant verb.Arborescences ws = Arborescences
-meant verb.Trees ws = Trees
-meant verb.Forests ws = Forests
-meant verb.Orient ws = with_number (λ k. Orient k) ws
-meant verb.Dijoin ws = Dijoin
-meant verb.Check ws = Check
-meant verb.Trial ws = with_trial ws
+abbrev meant : FirstWord → List (List ℕ) → Command
+meant (first.Asks verb.Flow) ws = Flow
+meant (first.Asks verb.CutTree) ws = CutTree
+meant (first.Asks verb.Augment) ws = with_number (λ k. Augment k) ws
+meant (first.Asks verb.AugmentArcs) ws = with_number (λ k. AugmentArcs k) ws
+meant (first.Asks verb.Arborescences) ws = Arborescences
+meant (first.Asks verb.Trees) ws = Trees
+meant (first.Asks verb.Forests) ws = Forests
+meant (first.Asks verb.Orient) ws = with_number (λ k. Orient k) ws
+meant (first.Asks verb.Dijoin) ws = Dijoin
+meant first.Check ws = Check
+meant first.Trial ws = with_trial ws
 
 value : (low high n : ℕ) (w : List ℕ) → high < 2 ^ 64 → (low ≤ n) × (n ≤ high) → w ≡ decimal n → digits_value 10 w ≡ n
 value low high n w fits limits is = ap (digits_value 10) is ∙ digits_value-decimal own n (omega (arith, fits, limits.0, limits.1))
@@ -59,23 +60,17 @@ trial-meant kind nodes number (a ∷ b ∷ []) limits fill = absurd fill.1.1
 trial-meant kind nodes number (a ∷ b ∷ c ∷ ws) (few, fits) (is_kind, (is_nodes, (is_number, rest))) =
     trial_same (ap kind_named is_kind ∙ kind_named-kind_word kind) (value 2 128 nodes b (omega arith) few is_nodes) (value 0 (2 ^ 32 - 1) number c (omega arith) fits is_number)
 
-writes-meant : (command : Command) (w : List ℕ) (ws : List (List ℕ)) → Writes command (w ∷ ws) → meant (verb_of command) ws ≡ command
-writes-meant Flow w ws h = refl
-writes-meant CutTree w ws h = refl
+writes-meant : (command : Command) (w : List ℕ) (ws : List (List ℕ)) → Writes command (w ∷ ws) → meant (first_of command) ws ≡ command
 writes-meant (Augment k) w ws h = number-meant (λ k. Augment k) k ws h.limits h.fill.1
 writes-meant (AugmentArcs k) w ws h = number-meant (λ k. AugmentArcs k) k ws h.limits h.fill.1
-writes-meant Arborescences w ws h = refl
-writes-meant Trees w ws h = refl
-writes-meant Forests w ws h = refl
 writes-meant (Orient k) w ws h = number-meant (λ k. Orient k) k ws h.limits h.fill.1
-writes-meant Dijoin w ws h = refl
-writes-meant Check w ws h = refl
 writes-meant (Trial kind nodes number) w ws h = trial-meant kind nodes number ws h.limits h.fill.1
+writes-meant command w ws h = refl
 
 pub one_command : (words : List (List ℕ)) (one other : Command) → Writes one words → Writes other words → one ≡ other
 one_command [] one other h g = absurd (writes_some one h)
 one_command (w ∷ ws) one other h g =
-    let same : verb_of one ≡ verb_of other = verb_word_injective (verb_of one) (verb_of other) (sym (writes_slots one w ws h).0 ∙ (writes_slots other w ws g).0) in
+    let same : first_of one ≡ first_of other = first_word_injective (first_of one) (first_of other) (sym (writes_blanks one w ws h).0 ∙ (writes_blanks other w ws g).0) in
     sym (writes-meant one w ws h) ∙ ap (λ v. meant v ws) same ∙ writes-meant other w ws g
 
 pub not_both : (words : List (List ℕ)) (command : Command) (place : ℕ) → Writes command words → IsFirstBadPlace words place → ⊥

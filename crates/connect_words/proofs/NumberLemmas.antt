@@ -4,7 +4,7 @@ use Rattle.std.specs.Fmt.{decimal}
 use Rattle.std.specs.Str.Parse.{AllDigits, digits_value, ParsesUnsigned}
 use Rattle.std.proofs.lemmas.Str.Parse.{IsNumeralModel, parse_plain}
 use Rattle.std.proofs.lemmas.Fmt.{decimal-digits_value, decimal_injective, decimal_digit, first_decimal, parse-decimal}
-use Rattle.connect_words.specs.Slots.{IsDecimal, ReadsNumber}
+use Rattle.connect_words.specs.Blanks.{IsDecimal, ReadsNumber}
 
 pub some_injective : {x y : List ℕ} → Some x ≡ Some y → x ≡ y
 some_injective e = cc

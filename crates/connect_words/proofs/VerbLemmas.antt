@@ -3,40 +3,23 @@ use Rattle.std.proofs.Common.{◌≡◌, ℕ, List, refl, sym, ◌∙◌, ap, co
 use Rattle.std.specs.Prelude.{bytes_eq}
 use Rattle.connect_words.specs.declared.command.TrialKind.{TrialKind}
 use Rattle.connect_words.specs.declared.command.TrialKind.TheVariants as trial
-use Rattle.connect_words.specs.declared.slot.Verb.{Verb}
-use Rattle.connect_words.specs.declared.slot.Verb.TheVariants.{Flow, CutTree, Augment, AugmentArcs, Arborescences, Trees, Forests, Orient, Dijoin, Check, Trial}
+use Rattle.connect_words.specs.declared.blank.FirstWord.{FirstWord}
+use Rattle.connect_words.specs.declared.blank.FirstWord.TheVariants.{Asks, Check, Trial}
+use Rattle.problem_defs.proofs.VerbLaws.{verb_named}
+use Rattle.problem_defs.specs.declared.verb.Verb.TheVariants.{Flow}
 use Rattle.connect_words.specs.Commands.{kind_word}
-use Rattle.connect_words.specs.Slots.{verb_word}
+use Rattle.connect_words.specs.Blanks.{first_word}
 
--- the verb of a first word
-abbrev verb_named : List ℕ → Verb
-verb_named w =
-    cond (bytes_eq w (verb_word Flow)) Flow
-    (cond (bytes_eq w (verb_word CutTree)) CutTree
-    (cond (bytes_eq w (verb_word Augment)) Augment
-    (cond (bytes_eq w (verb_word AugmentArcs)) AugmentArcs
-    (cond (bytes_eq w (verb_word Arborescences)) Arborescences
-    (cond (bytes_eq w (verb_word Trees)) Trees
-    (cond (bytes_eq w (verb_word Forests)) Forests
-    (cond (bytes_eq w (verb_word Orient)) Orient
-    (cond (bytes_eq w (verb_word Dijoin)) Dijoin
-    (cond (bytes_eq w (verb_word Check)) Check Trial)))))))))
+-- the first word that is written so
+abbrev first_named : List ℕ → FirstWord
+first_named w = cond (bytes_eq w (first_word Check)) Check (cond (bytes_eq w (first_word Trial)) Trial (Asks (verb_named w)))
 
-verb_named-verb_word : (v : Verb) → verb_named (verb_word v) ≡ v
-verb_named-verb_word Flow = refl
-verb_named-verb_word CutTree = refl
-verb_named-verb_word Augment = refl
-verb_named-verb_word AugmentArcs = refl
-verb_named-verb_word Arborescences = refl
-verb_named-verb_word Trees = refl
-verb_named-verb_word Forests = refl
-verb_named-verb_word Orient = refl
-verb_named-verb_word Dijoin = refl
-verb_named-verb_word Check = refl
-verb_named-verb_word Trial = refl
+first_named-first_word : (first : FirstWord) → first_named (first_word first) ≡ first
+first_named-first_word (Asks Flow) = refl
+first_named-first_word first = refl
 
-pub verb_word_injective : (u v : Verb) → verb_word u ≡ verb_word v → u ≡ v
-verb_word_injective u v e = sym (verb_named-verb_word u) ∙ ap verb_named e ∙ verb_named-verb_word v
+pub first_word_injective : (u v : FirstWord) → first_word u ≡ first_word v → u ≡ v
+first_word_injective u v e = sym (first_named-first_word u) ∙ ap first_named e ∙ first_named-first_word v
 
 -- the kind of a word
 abbrev pub kind_named : List ℕ → TrialKind
@@ -51,10 +34,4 @@ kind_named w =
 
 pub kind_named-kind_word : (kind : TrialKind) → kind_named (kind_word kind) ≡ kind
 kind_named-kind_word trial.Flow = refl
-kind_named-kind_word trial.Augment = refl
-kind_named-kind_word trial.AugmentArcs = refl
-kind_named-kind_word trial.Arborescences = refl
-kind_named-kind_word trial.Trees = refl
-kind_named-kind_word trial.Forests = refl
-kind_named-kind_word trial.Orient = refl
-kind_named-kind_word trial.Dijoin = refl
+kind_named-kind_word kind = refl

@@ -37,5 +37,5 @@ abbrev pub unless : Option Misfit → Ask → Result Ask Misfit
 unless None ask = Ok ask
 unless (Some misfit) ask = Err misfit
 
-abbrev pub suited : GraphValue → Ask → Result Ask Misfit
-suited graph ask = unless (misfit_of graph ask) ask
+abbrev pub ask_or_misfit : GraphValue → Ask → Result Ask Misfit
+ask_or_misfit graph ask = unless (misfit_of graph ask) ask

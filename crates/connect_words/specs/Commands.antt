@@ -42,12 +42,19 @@ places Dijoin = word (codes "dijoin") ∷ []
 places Check = word (codes "check") ∷ []
 places (Trial kind nodes number) = word (codes "trial") ∷ word (kind_word kind) ∷ word (decimal nodes) ∷ word (decimal number) ∷ []
 
+-- the most nodes of a trial, and its greatest number
+abbrev pub most_nodes : ℕ
+most_nodes = 128
+
+abbrev pub most_number : ℕ
+most_number = 2 ^ 32 - 1
+
 -- how many nodes and which number a trial may have
 abbrev pub IsNodes : ℕ → Type 0
-IsNodes nodes = (2 ≤ nodes) × (nodes ≤ 128)
+IsNodes nodes = (2 ≤ nodes) × (nodes ≤ most_nodes)
 
 abbrev pub IsNumber : ℕ → Type 0
-IsNumber number = (0 ≤ number) × (number ≤ 2 ^ 32 - 1)
+IsNumber number = (0 ≤ number) × (number ≤ most_number)
 
 -- the numbers of a command are within their limits
 abbrev pub IsWithinLimits : Command → Type 0

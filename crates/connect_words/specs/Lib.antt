@@ -1,4 +1,4 @@
 pub mod Commands
 pub mod Places
-pub mod Slots
+pub mod Blanks
 pub mod Asks

@@ -1,7 +1,7 @@
 ghost use Rattle.std.specs.Prelude.{◌≡◌, Some, None, map, string_bytes, IsSomeAnd, IfOk};
 ghost use Rattle.problem_defs.specs.Ask.{KIsInRange, misfit_of};
 ghost use Rattle.connect_words.specs.Commands.{Solves, Writes};
-ghost use Rattle.connect_words.specs.Asks.{asked, node_at, node_named, suited};
+ghost use Rattle.connect_words.specs.Asks.{asked, node_at, node_named, ask_or_misfit};
 
 use crate::Command;
 use crate::words::word_at;
@@ -12,7 +12,7 @@ use problem_defs::{Ask, Misfit, unfit};
 pub fn ask_of(graph: &Graph, command: &Command, words: &[String]) -> Result<Ask, Misfit>
     requires solves { Solves command.now }
     requires written { Writes command.now (map string_bytes words.now) }
-    ensures answer { IsSomeAnd (asked graph.now (map string_bytes words.now) command.now) (λ ask. result ≡ suited graph.now ask) }
+    ensures answer { IsSomeAnd (asked graph.now (map string_bytes words.now) command.now) (λ ask. result ≡ ask_or_misfit graph.now ask) }
     ensures suits { IfOk result (λ ask. KIsInRange ask × (misfit_of graph.now ask ≡ None)) }
 {
     let ask = ask(graph, *command, words);

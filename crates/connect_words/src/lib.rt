@@ -2,10 +2,10 @@
 #![tactic(auto)]
 
 mod asks;
+mod blank;
 mod command;
 mod law;
 mod number;
-mod slot;
 mod words;
 
 pub use asks::ask_of;

@@ -1,6 +1,6 @@
 ghost use Rattle.std.specs.Prelude.{◌≡◌, ◌≢◌, ◌↔◌, ℕ, ◌^◌, ◌<◌, ◌≤◌, length, slice_index, IsTrue, IfSome, IfNone};
 ghost use Rattle.std.specs.Fmt.{decimal};
-ghost use Rattle.connect_words.specs.Slots.{IsDecimal};
+ghost use Rattle.connect_words.specs.Blanks.{IsDecimal};
 
 /// The number that the word writes as a decimal without sign or leading zeros.
 pub fn number(word: &str) -> Option<u32>

@@ -1,67 +1,85 @@
 ghost use Rattle.std.specs.Prelude.{◌≡◌, ◌≢◌, ◌↔◌, ℕ, ◌+◌, ◌<◌, ◌≤◌, Some, None, length, map, slice_get, string_bytes, IsTrue, IfOk, IfErr, IfSome, IfNone, MatchOption};
 ghost use Rattle.connect_words.specs.Commands.{Writes};
 ghost use Rattle.connect_words.specs.Places.{IsFirstBadPlace};
-ghost use Rattle.connect_words.specs.Slots.{verb_word, verb_of, Takes, Reads, ReadsNumber, ReadsKind};
-ghost use Rattle.connect_words.specs.declared.slot.Verb.{Verb};
+ghost use Rattle.connect_words.specs.Blanks.{first_word, first_of, Takes, Reads, ReadsNumber, ReadsKind};
+ghost use Rattle.connect_words.specs.declared.blank.FirstWord as firsts;
+ghost use Rattle.connect_words.specs.declared.blank.FirstWord.TheVariants.{Asks};
 
+use crate::blank::{Blank, FirstWord};
 use crate::number::number;
-use crate::slot::{Slot, Verb};
 use crate::{Command, TrialKind, WordFault};
+use problem_defs::Verb;
 
 /// The command that the words write. It takes no memory.
 pub fn read_words(words: &[String]) -> Result<Command, WordFault>
     ensures command { IfOk result (λ command. Writes command (map string_bytes words.now)) }
     ensures fault { IfErr result (λ fault. IsFirstBadPlace (map string_bytes words.now) fault.place) }
 {
-    let Some(verb) = first_verb(words) else {
+    let Some(first) = first_named(words) else {
         return Err(WordFault { place: 1 });
     };
-    let slots = verb.slots();
-    let filled = filled(slots, words);
-    if filled < slots.len() || slots.len() + 1 < words.len() {
+    let blanks = first.blanks();
+    let filled = filled(blanks, words);
+    if filled < blanks.len() || blanks.len() + 1 < words.len() {
         return Err(WordFault { place: filled + 2 });
     }
-    Ok(command(verb, words))
+    Ok(command(first, words))
 }
 
-// The command of the first word.
-fn first_verb(words: &[String]) -> Option<Verb>
-    ensures found { IfSome result (λ verb. slice_get (map string_bytes words.now) 0 ≡ Some (verb_word verb)) }
-    ensures absent { IfNone result ((verb : Verb) → slice_get (map string_bytes words.now) 0 ≢ Some (verb_word verb)) }
+// The first word, where it is that of a command.
+fn first_named(words: &[String]) -> Option<FirstWord>
+    ensures found { IfSome result (λ first. slice_get (map string_bytes words.now) 0 ≡ Some (first_word first)) }
+    ensures absent { IfNone result ((first : firsts.FirstWord) → slice_get (map string_bytes words.now) 0 ≢ Some (first_word first)) }
 {
     match word_at(words, 0) {
-        Some(word) => Verb::named(word),
+        Some(word) => FirstWord::named(word),
         None => None,
     }
 }
 
-// How many slots in front are filled by the words behind the first.
-fn filled(slots: &[Slot], words: &[String]) -> usize
-    ensures within { result ≤ length slots.now }
-    ensures before { (at : ℕ) → at < result → Takes (slice_get slots.now at) (slice_get (map string_bytes words.now) (at + 1)) }
-    ensures stop { result < length slots.now → ¬ Takes (slice_get slots.now result) (slice_get (map string_bytes words.now) (result + 1)) }
+// How many blanks in front are filled by the words behind the first.
+fn filled(blanks: &[Blank], words: &[String]) -> usize
+    ensures within { result ≤ length blanks.now }
+    ensures before { (at : ℕ) → at < result → Takes (slice_get blanks.now at) (slice_get (map string_bytes words.now) (at + 1)) }
+    ensures stop { result < length blanks.now → ¬ Takes (slice_get blanks.now result) (slice_get (map string_bytes words.now) (result + 1)) }
 {
-    for (at, slot) in slots.iter().enumerate() {
-        if !is_filled(*slot, words, at + 1) {
+    for (at, blank) in blanks.iter().enumerate() {
+        if !is_filled(*blank, words, at + 1) {
             return at;
         }
     }
-    slots.len()
+    blanks.len()
 }
 
-// Whether the word at the place suits the slot.
-fn is_filled(slot: Slot, words: &[String], at: usize) -> bool
-    ensures { IsTrue result ↔ Takes (Some slot) (slice_get (map string_bytes words.now) at) }
+// Whether a word stands at the place that may stand in the blank.
+fn is_filled(blank: Blank, words: &[String], at: usize) -> bool
+    ensures { IsTrue result ↔ Takes (Some blank) (slice_get (map string_bytes words.now) at) }
 {
     match word_at(words, at) {
-        Some(word) => slot.suits(word),
+        Some(word) => blank.may_stand(word),
         None => false,
     }
 }
 
 // The command with this first word, with the kind and the numbers that the words write.
-fn command(verb: Verb, words: &[String]) -> Command
-    ensures verb { verb_of result ≡ verb }
+fn command(first: FirstWord, words: &[String]) -> Command
+    ensures first { first_of result ≡ first }
+    ensures reads { Reads (map string_bytes words.now) result }
+{
+    match first {
+        FirstWord::Asks(verb) => asking(verb, words),
+        FirstWord::Check => Command::Check,
+        FirstWord::Trial => Command::Trial {
+            kind: kind_at(words, 1),
+            nodes: number_at(words, 2),
+            number: number_at(words, 3),
+        },
+    }
+}
+
+// The command of this verb.
+fn asking(verb: Verb, words: &[String]) -> Command
+    ensures first { first_of result ≡ Asks verb }
     ensures reads { Reads (map string_bytes words.now) result }
 {
     match verb {
@@ -80,12 +98,6 @@ fn command(verb: Verb, words: &[String]) -> Command
             k: number_at(words, 1),
         },
         Verb::Dijoin => Command::Dijoin,
-        Verb::Check => Command::Check,
-        Verb::Trial => Command::Trial {
-            kind: kind_at(words, 1),
-            nodes: number_at(words, 2),
-            number: number_at(words, 3),
-        },
     }
 }
 

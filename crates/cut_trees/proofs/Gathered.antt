@@ -8,12 +8,13 @@ use Rattle.graph_core.specs.Lines.{differ}
 use Rattle.graph_core.proofs.SideLaws.{has-zip2, has-minus}
 use Rattle.graph_core.specs.declared.graph.Line.{Line}
 use Rattle.cut_trees.specs.declared.branch.Branch.{Branch}
-use Rattle.cut_trees.specs.Grown.{IsGrown, IsLeastSide}
+use Rattle.flow_cuts.specs.NodeCuts.{IsLeastNodeCut}
+use Rattle.cut_trees.specs.Grown.{IsGrown}
 use Rattle.cut_trees.specs.Turn.{IsTurn, Follows}
 use Rattle.graph_core.proofs.CutLaws.{degree_meets, degree_parts}
 use Rattle.cut_trees.proofs.StoredSides.{together, misses_t, misses_first, disjoint}
 
-module _ {n s t w m : ℕ} {ls : List Line} {b : ℕ → Branch} {rep : ℕ → ℕ} {X : List Bool} (turn : IsTurn n s t ls m b rep) (cut : IsLeastSide n ls s t w X) where
+module _ {n s t w m : ℕ} {ls : List Line} {b : ℕ → Branch} {rep : ℕ → ℕ} {X : List Bool} (turn : IsTurn n s t ls m b rep) (cut : IsLeastNodeCut n ls s t w X) where
   st : IsGrown n s ls m b rep
   st = turn.grown
 
@@ -23,7 +24,7 @@ module _ {n s t w m : ℕ} {ls : List Line} {b : ℕ → Branch} {rep : ℕ → 
     same = cut.long ∙ sym (st.long i li)
 
     -- the intersection holds u and misses t, so it has at least d of the stored side, and the union at most d(X)
-    pub widened : has X (b i).first ≡ true → IsLeastSide n ls s t w (join X (b i).side)
+    pub widened : has X (b i).first ≡ true → IsLeastNodeCut n ls s t w (join X (b i).side)
     widened in_x =
         let long : length (join X (b i).side) ≡ n = length-zip2 ◌||◌ X (b i).side same ∙ cut.long in
         let holds : has (join X (b i).side) s ≡ true = has-zip2 ◌||◌ refl X (b i).side s same ∙ or_left (has X s) (has (b i).side s) cut.holds in
@@ -35,7 +36,7 @@ module _ {n s t w m : ℕ} {ls : List Line} {b : ℕ → Branch} {rep : ℕ → 
         record { long = long; holds = holds; misses = misses; value = omega (arith, degree_meets ls X (b i).side cut.long (st.long i li), cut.value, st.value i li); least = cut.least }
 
     -- what the stored side has outside X holds u and misses t, so it has at least d of the stored side, and the rest of X at most d(X)
-    pub narrowed : has X (b i).first ≡ false → IsLeastSide n ls s t w (minus X (b i).side)
+    pub narrowed : has X (b i).first ≡ false → IsLeastNodeCut n ls s t w (minus X (b i).side)
     narrowed out_x =
         let long : length (minus X (b i).side) ≡ n = length-zip2 (λ x y. x && not y) X (b i).side same ∙ cut.long in
         let misses_s : has (b i).side s ≡ false = together turn i li ∙ misses_t turn i li to in

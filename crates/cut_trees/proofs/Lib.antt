@@ -1,9 +1,7 @@
 pub mod Branches
 pub mod Gathered
-pub mod LeastSides
 pub mod NextNode
 pub mod SomeBelow
 pub mod SpanningTree
 pub mod StoredSides
 pub mod Turned
-pub mod NetworkCuts

@@ -7,9 +7,10 @@ use Rattle.graph_core.specs.Lines.{differ, degree}
 use Rattle.graph_core.specs.declared.graph.Line.{Line}
 use Rattle.cut_trees.specs.declared.branch.Branch.{Branch}
 use Rattle.cut_trees.specs.Branch.{led}
-use Rattle.cut_trees.specs.Grown.{IsGrown, IsLeastSide}
+use Rattle.flow_cuts.specs.NodeCuts.{IsLeastNodeCut}
+use Rattle.cut_trees.specs.Grown.{IsGrown}
 use Rattle.cut_trees.specs.Turn.{IsTurn, Follows}
-use Rattle.cut_trees.proofs.LeastSides.{least_either}
+use Rattle.flow_cuts.proofs.NodeCutLaws.{least_either}
 use Rattle.cut_trees.proofs.StoredSides.{t_in, t_below, together, covered}
 
 pub grown_first : (n : ℕ) (ls : List Line) (b : ℕ → Branch) (rep : ℕ → ℕ) → 1 ≤ n → ((x : ℕ) → x < n → rep x ≡ 0) → IsGrown n 1 ls 0 b rep
@@ -42,7 +43,7 @@ cond-lt false s r l = omega arith
 told : (a c d : Bool) → differ a c ≡ true → differ a d ≡ false → differ c d ≡ true
 told a c d h k = grind arith
 
-module _ {n s t w m : ℕ} {ls : List Line} {b : ℕ → Branch} {rep : ℕ → ℕ} {X : List Bool} (turn : IsTurn n s t ls m b rep) (cut : IsLeastSide n ls s t w X) (follows : Follows n t m b X)
+module _ {n s t w m : ℕ} {ls : List Line} {b : ℕ → Branch} {rep : ℕ → ℕ} {X : List Bool} (turn : IsTurn n s t ls m b rep) (cut : IsLeastNodeCut n ls s t w X) (follows : Follows n t m b X)
     (b' : ℕ → Branch) (is : (j : ℕ) → j < m → b' j ≡ led ((b j).second == t && has X (b j).first) s (b j)) (last : b' m ≡ record { first = s; second = t; weight = w; side = X })
     (rep' : ℕ → ℕ) (reps : (x : ℕ) → x < n → rep' x ≡ cond (rep x == t && has X x) s (rep x)) where
   old : IsGrown n s ls m b rep
@@ -104,7 +105,7 @@ module _ {n s t w m : ℕ} {ls : List Line} {b : ℕ → Branch} {rep : ℕ → 
                   let to : (b j).second ≡ t = to_t (b j).second (has X (b j).first) goes in
                   let in_x : has X (b j).first ≡ true = (and_parts ((b j).second == t) (has X (b j).first) goes).1 in
                   let between : differ (has Y s) (has Y (b j).second) ≡ true = told (has Y (b j).first) (has Y s) (has Y (b j).second) (rw goes at tells) alike in
-                  let bound = least_either turn.fit turn.next (t_below turn) cut Y e (rw to at between) in
+                  let bound = least_either ls turn.fit turn.next (t_below turn) cut.least Y e (rw to at between) in
                   let low = old.least j l X cut.long (λ z. differ (in_x z) ((ap (has X) to ∙ cut.misses) z)) in
                   omega (arith, cut.value)
             ]
@@ -151,7 +152,7 @@ module _ {n s t w m : ℕ} {ls : List Line} {b : ℕ → Branch} {rep : ℕ → 
     value = below_more (λ j. degree (b' j).side ls ≡ (b' j).weight) m (λ j l. rw (is j l) (old.value j l)) (rw last cut.value);
     least =
         below_more (λ j. (Y : List Bool) → length Y ≡ n → differ (has Y (b' j).first) (has Y (b' j).second) ≡ true → (b' j).weight ≤ degree Y ls) m least_led
-        (rw last (least_either turn.fit turn.next (t_below turn) cut));
+        (rw last (least_either ls turn.fit turn.next (t_below turn) cut.least));
     rep_in = λ x l. rw (reps x l) (cond-lt (rep x == t && has X x) s (rep x) (old.rep_in x l));
     rep_self = below_more (λ x. rep' x ≡ x) s rep_old rep_new;
     kept = λ j x l lx.

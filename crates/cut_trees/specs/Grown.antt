@@ -5,14 +5,6 @@ use Rattle.graph_core.specs.Lines.{differ, degree}
 use Rattle.graph_core.specs.declared.graph.Line.{Line}
 use Rattle.cut_trees.specs.declared.branch.Branch.{Branch}
 
--- X holds s and misses t, w lines cross it, and no such side is crossed by fewer
-pub record IsLeastSide (n : ℕ) (ls : List Line) (s t w : ℕ) (X : List Bool) : Type 0 where
-  pub long : length X ≡ n
-  pub holds : has X s ≡ true
-  pub misses : has X t ≡ false
-  pub value : degree X ls ≡ w
-  pub least : (Y : List Bool) → length Y ≡ n → has Y s ≡ true → has Y t ≡ false → w ≤ degree Y ls
-
 -- m branches b on the nodes below s, each with a least cut that no other branch crosses; rep gives each node one below s that no stored side separates from it
 pub record IsGrown (n s : ℕ) (ls : List Line) (m : ℕ) (b : ℕ → Branch) (rep : ℕ → ℕ) : Type 0 where
   pub many : m + 1 ≡ s

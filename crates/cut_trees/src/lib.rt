@@ -2,7 +2,6 @@
 #![tactic(auto)]
 
 mod branch;
-mod node_cuts;
 mod tree;
 
 pub use tree::cut_tree;

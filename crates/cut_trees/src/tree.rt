@@ -4,11 +4,12 @@ ghost use Rattle.graph_core.specs.declared.graph.Line.{Line as LineOf};
 ghost use Rattle.problem_defs.specs.CutTree.{IsCutTree};
 ghost use Rattle.cut_trees.specs.declared.branch.Branch.{Branch as BranchOf};
 ghost use Rattle.cut_trees.specs.Branch.{at, pair_of};
-ghost use Rattle.cut_trees.specs.Grown.{IsGrown, IsLeastSide};
+ghost use Rattle.flow_cuts.specs.NodeCuts.{IsLeastNodeCut};
+ghost use Rattle.cut_trees.specs.Grown.{IsGrown};
 ghost use Rattle.cut_trees.specs.Turn.{IsTurn, Follows};
 
 use crate::branch::{Branch, lead_on, represent, turn_branches};
-use crate::node_cuts::NodeCuts;
+use flow_cuts::NodeCuts;
 use graph_core::{Graph, NoMemory, Side, WeightedPairs};
 use std::alloc::Global;
 
@@ -18,7 +19,7 @@ fn gather(side: &mut Side, branches: &[Branch], t: u32)
     requires long { All (λ b. length b.side ≡ length side.old) branches.now }
     requires first { All (λ b. b.first < length side.old) branches.now }
     ensures long { length side.new ≡ length side.old }
-    ensures gathered { (n s w : ℕ) (ls : List LineOf) (rep : ℕ → ℕ) → IsTurn n s t ls (length branches.now) (at branches.now) rep → IsLeastSide n ls s t w side.old → IsLeastSide n ls s t w side.new × Follows n t (length branches.now) (at branches.now) side.new }
+    ensures gathered { (n s w : ℕ) (ls : List LineOf) (rep : ℕ → ℕ) → IsTurn n s t ls (length branches.now) (at branches.now) rep → IsLeastNodeCut n ls s t w side.old → IsLeastNodeCut n ls s t w side.new × Follows n t (length branches.now) (at branches.now) side.new }
 {
     for branch in branches {
         if branch.second == t {

@@ -1,18 +1,17 @@
 -- A least side is found node by node.
-use Rattle.std.specs.Prelude.{ℕ, ◌≡◌, ◌≢◌, ◌+◌, ◌<◌, ◌≤◌, not, Bool, true, false, List, length, map, get_or, All}
+use Rattle.std.specs.Prelude.{ℕ, ◌≡◌, ◌≢◌, ◌+◌, ◌<◌, ◌≤◌, not, Bool, true, false, List, length, map, get_or}
 use Rattle.std.proofs.Common.{sym, ap, ◌∙◌, subst, inl, inr, arith}
 use Rattle.std.proofs.lemmas.Bool.{cases_eq, cases_lt, false_from_ne_true}
 use Rattle.std.proofs.lemmas.List.{length-map, get_or_default}
-use Rattle.std.proofs.lemmas.List.Elements.{All-map, All-weaker}
-use Rattle.graph_core.specs.Graph.{Fits}
 use Rattle.graph_core.specs.Side.{has, complement, IsOnly, IsNonempty}
 use Rattle.graph_core.specs.Lines.{entering}
 use Rattle.graph_core.proofs.SideLaws.{contains-has, has-complement}
 use Rattle.graph_core.specs.declared.graph.Line.{Line}
 use Rattle.flow_cuts.specs.Cuts.{IsLeastCapacity, IsLeastCut}
+use Rattle.flow_cuts.specs.NewNode.{arc_by}
+use Rattle.flow_cuts.proofs.NewNodes.{capacity-arcs_by}
+use Rattle.problem_defs.specs.declared.cert.Way.TheVariants.{Entering}
 use Rattle.edmonds_branchings.specs.LeastSide.{IsLeastSide}
-use Rattle.edmonds_branchings.specs.Network.{turned}
-use Rattle.edmonds_branchings.proofs.Start.{capacity-turned}
 
 -- a nonempty side without r, entered by no more arcs than one that holds a node below v
 pub record IsLeastBelow (n v : ℕ) (ls : List Line) (r value : ℕ) (X : List Bool) : Type 0 where
@@ -20,9 +19,6 @@ pub record IsLeastBelow (n v : ℕ) (ls : List Line) (r value : ℕ) (X : List B
   pub misses : has X r ≡ false
   pub value_is : entering X ls ≡ value
   pub least : (Y : List Bool) → length Y ≡ n → has Y r ≡ false → (u : ℕ) → u < v → has Y u ≡ true → value ≤ entering Y ls
-
-pub ends_turned : {n : ℕ} (ls : List Line) → All (Fits n) ls → All (λ a. (a.tail < n) × (a.head < n)) (map turned ls)
-ends_turned {n} ls fits = All-map (λ a. (a.tail < n) × (a.head < n)) turned ls (All-weaker (Fits n) (λ l. (l.head < n) × (l.tail < n)) (λ l f. (f.head, f.tail)) ls fits)
 
 -- all nodes but the root
 pub least_first : {n r value : ℕ} {ls : List Line} {H X : List Bool} → r < n → 2 ≤ n → IsOnly H r → length H ≡ n → X ≡ complement H → value ≡ entering X ls → IsLeastBelow n 0 ls r value X
@@ -46,8 +42,8 @@ module _ {n v r value : ℕ} {ls : List Line} {X : List Bool} (b : IsLeastBelow 
     least = λ Y y out u l h. elim (cases_lt u v) [ inl lt ↦ b.least Y y out u lt h | inr ge ↦ (let same : u ≡ r = omega arith in absurd (cc (ap (has Y) same, h, out))) ];
   }
 
-  pub least_next : {answer : ℕ} {I O Z : List Bool} → IsOnly I v → IsOnly O r → IsLeastCapacity n I O (map turned ls) value answer
-      → (value ≤ answer → Z ≡ X) → (answer < value → IsLeastCut n I O (map turned ls) answer Z) → IsLeastBelow n (v + 1) ls r answer Z
+  pub least_next : {answer : ℕ} {I O Z : List Bool} → IsOnly I v → IsOnly O r → IsLeastCapacity n I O (map (arc_by Entering) ls) value answer
+      → (value ≤ answer → Z ≡ X) → (answer < value → IsLeastCut n I O (map (arc_by Entering) ls) answer Z) → IsLeastBelow n (v + 1) ls r answer Z
   least_next {answer} {I} {O} {Z} inside outside least kept cut =
       let below : (Y : List Bool) → length Y ≡ n → has Y r ≡ false → (u : ℕ) → u < v + 1 → has Y u ≡ true → answer ≤ entering Y ls = λ Y y out u l h.
       elim (cases_lt u v) [
@@ -56,7 +52,7 @@ module _ {n v r value : ℕ} {ls : List Line} {X : List Bool} (b : IsLeastBelow 
             let same : v ≡ u = omega arith in
             omega (
               arith,
-              capacity-turned Y ls,
+              capacity-arcs_by Entering Y ls,
               least.least Y (record {
                 long = y;
                 holds = λ w i. ap (has Y) (inside.only w i ∙ same) ∙ h;
@@ -70,7 +66,7 @@ module _ {n v r value : ℕ} {ls : List Line} {X : List Bool} (b : IsLeastBelow 
             record {
               nonempty = record { long = c.separates.long; some_in = contains-has Z v (c.separates.holds v inside.here) };
               misses = c.separates.misses r outside.here;
-              value_is = sym (capacity-turned Z ls) ∙ c.value_is;
+              value_is = sym (capacity-arcs_by Entering Z ls) ∙ c.value_is;
               least = below;
             }
         | inr ge ↦

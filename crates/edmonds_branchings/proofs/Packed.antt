@@ -26,12 +26,12 @@ pub record IsPacking (n rest : ℕ) (ls : List Line) (roots : List ℕ) (arcs : 
   pub begin : (v : ℕ) → v < n → beginning_at v ls rows + (cap_at arcs (length ls + v)).cap ≤ slice_index roots v
   pub most : HasCapacity n rest arcs
 
-pub packing_start : {n k : ℕ} {ls : List Line} {roots : List ℕ} → CanBePacked n k ls roots → IsPacking n k ls roots (network_of n ls roots) []
+pub packing_start : {n k : ℕ} {ls : List Line} {roots : List ℕ} → CanBePacked n k ls roots → IsPacking n k ls roots (network_of ls roots) []
 packing_start {n} {k} {ls} {roots} can = record {
   left = left_start n ls roots can.long;
   each = All-nil (IsBranching n ls);
-  once = λ j l. let (x, is) = some_line ls j l in omega (arith, unit_at n ls roots j x is);
-  begin = λ v l. omega (arith, ap (λ a. a.cap) (root_at n ls roots v (omega (arith, can.long))));
+  once = λ j l. let (x, is) = some_line ls j l in omega (arith, unit_at ls roots j x is);
+  begin = λ v l. omega (arith, ap (λ a. a.cap) (root_at ls roots v (omega (arith, can.long))));
   most = capacity_start can;
 }
 

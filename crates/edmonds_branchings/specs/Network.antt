@@ -1,18 +1,12 @@
 -- The digraph turned round, with one node more that the roots lead to.
-use Rattle.std.specs.Prelude.{ℕ, suc, ◌≡◌, ◌+◌, ◌-◌, ◌<◌, ◌≤◌, List, [], ◌∷◌, ◌++◌, length, map, slice_get, slice_index_or, slice_set, All, Some}
+use Rattle.std.specs.Prelude.{ℕ, ◌≡◌, ◌+◌, ◌-◌, ◌<◌, ◌≤◌, List, length, map, slice_get, slice_index_or, slice_set, All, Some}
 use Rattle.graph_core.specs.declared.graph.Line.{Line}
+use Rattle.problem_defs.specs.declared.cert.Way.TheVariants.{Entering}
+use Rattle.flow_cuts.specs.NewNode.{arc_by, with_new_node}
 use Rattle.flow_cuts.specs.declared.network.Cap.{Cap}
 
-abbrev pub turned : Line → Cap
-turned l = record { tail = l.head; head = l.tail; cap = 1 }
-
--- an arc to node n from each node from v on, as often as the node's number
-abbrev pub root_arcs : ℕ → ℕ → List ℕ → List Cap
-root_arcs n v [] = []
-root_arcs n v (c ∷ cs) = record { tail = v; head = n; cap = c } ∷ root_arcs n (suc v) cs
-
-abbrev pub network_of : ℕ → List Line → List ℕ → List Cap
-network_of n ls roots = map turned ls ++ root_arcs n 0 roots
+abbrev pub network_of : List Line → List ℕ → List Cap
+network_of ls roots = with_new_node (map (arc_by Entering) ls) roots
 
 abbrev pub no_arc : Cap
 no_arc = record { tail = 0; head = 0; cap = 0 }

@@ -5,11 +5,10 @@ ghost use Rattle.problem_defs.specs.Certified.{IsCertified};
 ghost use Rattle.flow_cuts.specs.Cuts.{IsLeastCapacity, IsLeastCut};
 ghost use Rattle.edmonds_branchings.specs.LeastSide.{IsLeastSide};
 
-use crate::network::turned_lines;
 use crate::packing::pack_rooted;
-use flow_cuts::Flow;
+use flow_cuts::{Flow, arcs_by};
 use graph_core::{Counts, Graph, NoMemory, Side};
-use problem_defs::{ArborescencesAsk, Certified, Problem};
+use problem_defs::{ArborescencesAsk, Certified, Problem, Way};
 use std::alloc::Global;
 
 /// The smaller of the value and the least capacity of a cut between the two sides. Where a cut has less, `least` becomes it.
@@ -37,7 +36,7 @@ fn least_side(alloc: Global, graph: &Graph, root: u32) -> Result<Side, NoMemory>
 {
     graph.known();
     let n = graph.node_count();
-    let arcs = turned_lines(alloc, graph.lines())?;
+    let arcs = arcs_by(alloc, Way::Entering, graph.lines())?;
     let mut flow = Flow::of_arcs(alloc, n, &arcs)?;
     let mut inside = Side::empty(alloc, n)?;
     let mut outside = Side::empty(alloc, n)?;

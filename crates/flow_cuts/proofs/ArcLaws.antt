@@ -1,5 +1,5 @@
 -- The capacity that leaves a side of a graph is the number of lines by which one can leave it.
-use Rattle.std.proofs.Common.{◌≡◌, ◌+◌, List, [], ◌∷◌, Bool, true, false, refl, arith}
+use Rattle.std.proofs.Common.{ℕ, ◌≡◌, ◌+◌, ◌*◌, List, [], ◌∷◌, Bool, true, false, refl, arith}
 use Rattle.std.specs.Prelude.{count_by}
 use Rattle.std.proofs.lemmas.List.Sums.{sum_by-cons, sum_by-append}
 use Rattle.graph_core.specs.Side.{has}
@@ -11,15 +11,16 @@ use Rattle.graph_core.proofs.Counting.{weight}
 use Rattle.flow_cuts.specs.Network.{across, leaving, capacity}
 use Rattle.flow_cuts.specs.GraphArcs.{unit_arc, arcs_along, arcs_of}
 
-both_ways : (a b : Bool) → across a b 1 + across b a 1 ≡ weight (differ a b)
-both_ways true true = refl
-both_ways true false = refl
-both_ways false true = refl
-both_ways false false = refl
+-- q arcs each way
+pub both_across : (a b : Bool) (q : ℕ) → across a b q + across b a q ≡ q * weight (differ a b)
+both_across true true q = omega arith
+both_across true false q = omega arith
+both_across false true q = omega arith
+both_across false false q = omega arith
 
 capacity-arcs_along : (k : Kind) (X : List Bool) (l : Line) → capacity X (arcs_along k l) ≡ weight (cut_by k X l)
 capacity-arcs_along Undirected X l =
-    omega (arith, sum_by-cons (leaving X) (unit_arc l.tail l.head) (unit_arc l.head l.tail ∷ []), sum_by-cons (leaving X) (unit_arc l.head l.tail) [], both_ways (has X l.tail) (has X l.head))
+    omega (arith, sum_by-cons (leaving X) (unit_arc l.tail l.head) (unit_arc l.head l.tail ∷ []), sum_by-cons (leaving X) (unit_arc l.head l.tail) [], both_across (has X l.tail) (has X l.head) 1)
 capacity-arcs_along Directed X l = omega (arith, sum_by-cons (leaving X) (unit_arc l.tail l.head) [])
 
 -- d(X), or δ(X) in a digraph

@@ -5,11 +5,15 @@ pub mod ExtremeSides
 pub mod GraphWalks
 pub mod LinkLaws
 pub mod Menger
+pub mod NewNodes
+pub mod NodeCutLaws
 pub mod OpenWays
 pub mod Pushes
 pub mod RisingWays
 pub mod Rows
 pub mod Runs
 pub mod SearchTrees
+pub mod SparseLaws
+pub mod StarFlows
 pub mod Streams
 pub mod TakenWalks

@@ -1,11 +1,16 @@
 pub mod Cuts
 pub mod Flow
 pub mod GraphArcs
+pub mod LeastMissing
 pub mod LinkWalks
 pub mod Network
+pub mod NewNode
+pub mod NodeCuts
 pub mod Ready
 pub mod Residual
 pub mod Rows
 pub mod Search
 pub mod Sound
+pub mod Sparse
+pub mod StarRun
 pub mod Streams

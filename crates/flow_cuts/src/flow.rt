@@ -115,7 +115,7 @@ impl Flow {
     /// A flow over arcs with capacities among `n` nodes, before its first run.
     pub fn of_arcs(alloc: Global, n: usize, arcs: &[Cap]) -> Result<Flow, NoMemory>
         requires nodes { n ≤ 8192 }
-        requires few { length arcs.now ≤ 262144 }
+        requires few { length arcs.now ≤ 16777216 }
         requires ends { All (λ arc. (arc.tail < n) × (arc.head < n)) arcs.now }
         ensures { IfOk result (λ flow. flow ≡ record { nodes = n; arcs = arcs.now; graph = None; last = None }) }
     {

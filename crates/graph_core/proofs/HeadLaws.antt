@@ -41,14 +41,26 @@ one_node (suc h) (x ∷ X) =
     let first : weight (suc h == 0) ≡ 0 = ap weight (ne_eqb (suc h) 0 (λ e. absurd (omega arith))) in
     elim x as (λ b. cond b (weight (suc h == 0)) 0 + sum_over X (λ v. weight (suc h == suc v)) ≡ weight (has X h)) [ true ↦ omega (arith, first, rest) | false ↦ omega (arith, rest) ]
 
+module _ {A : Type 0} (t : A → Bool) (g : A → ℕ) where
+  one_named : (X : List Bool) (x : A) → sum_over X (λ v. weight (t x && (g x == v))) ≡ weight (t x && has X (g x))
+  one_named X x = elim (t x) as (λ b. sum_over X (λ v. weight (b && (g x == v))) ≡ weight (b && has X (g x))) [ true ↦ one_node (g x) X | false ↦ nodes_none X ]
+
+  -- items that pass a test, counted by the node that they name
+  pub nodes_named_by : (X : List Bool) (xs : List A) → sum_over X (λ v. count_by (λ x. t x && (g x == v)) xs) ≡ count_by (λ x. t x && has X (g x)) xs
+  nodes_named_by X [] = nodes_none X
+  nodes_named_by X (x ∷ xs) =
+      (λ i. sum_over X (λ v. sum_by-cons (λ y. weight (t y && (g y == v))) x xs i))
+      ∙ nodes_add (λ v. weight (t x && (g x == v))) (λ v. count_by (λ y. t y && (g y == v)) xs) X
+      ∙ (λ i. one_named X x i + nodes_named_by X xs i)
+      ∙ sym (sum_by-cons (λ y. weight (t y && has X (g y))) x xs)
+
+-- all items
+pub nodes_named : {A : Type 0} (g : A → ℕ) (X : List Bool) (xs : List A) → sum_over X (λ v. count_by (λ x. g x == v) xs) ≡ count_by (λ x. has X (g x)) xs
+nodes_named g X xs = nodes_named_by (λ _. true) g X xs
+
 -- the arcs with their heads in X, counted by head
 pub heads_in : (X : List Bool) (ls : List Line) → sum_over X (λ v. in_degree v ls) ≡ count_by (λ l. has X l.head) ls
-heads_in X [] = nodes_none X
-heads_in X (l ∷ ls) =
-    (λ i. sum_over X (λ v. sum_by-cons (λ x. weight (x.head == v)) l ls i))
-    ∙ nodes_add (λ v. weight (l.head == v)) (λ v. in_degree v ls) X
-    ∙ (λ i. one_node l.head X i + heads_in X ls i)
-    ∙ sym (sum_by-cons (λ x. weight (has X x.head)) l ls)
+heads_in X ls = nodes_named (λ (l : Line). l.head) X ls
 
 head_split : (a b : Bool) → weight b ≡ weight (b && not a) + weight (a && b)
 head_split a b = grind arith

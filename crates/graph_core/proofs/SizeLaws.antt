@@ -1,5 +1,5 @@
 -- Counts over lists, and sizes of sides.
-use Rattle.std.proofs.Common.{ℕ, zero, suc, ◌≡◌, ◌+◌, ◌<◌, ◌≤◌, Bool, true, false, cond, ◌⊎◌, inl, inr, List, [], ◌∷◌, length, count_by, replicate, refl, ap, arith, ⊎_elim}
+use Rattle.std.proofs.Common.{ℕ, zero, suc, ◌≡◌, ◌+◌, ◌<◌, ◌≤◌, Bool, true, false, cond, ◌⊎◌, inl, inr, List, [], ◌∷◌, length, count_by, replicate, refl, ap, sym, ◌∙◌, arith, ⊎_elim}
 use Rattle.std.specs.List.{range_with_len, sum_by}
 use Rattle.std.proofs.lemmas.Bool.{cases_eq}
 use Rattle.std.proofs.lemmas.List.Sums.{sum_by-cons}
@@ -48,6 +48,29 @@ sum_one f c a (suc n) most other =
     sum_none : (b k : ℕ) → c < b → sum_by f (range_with_len b k) ≡ 0
     sum_none b zero l = refl
     sum_none b (suc k) l = omega (arith, sum_by-cons f b (range_with_len (b + 1) k), other b (λ e. absurd (omega arith)), sum_none (b + 1) k (omega arith))
+
+-- how many numbers below n pass
+abbrev pub count_below : ℕ → (ℕ → Bool) → ℕ
+count_below zero p = 0
+count_below (suc n) p = weight (p n) + count_below n p
+
+weight_less : (a b : Bool) → (a ≡ true → b ≡ true) → weight a ≤ weight b
+weight_less true true h = omega arith
+weight_less true false h = absurd (cc (h refl))
+weight_less false b h = omega arith
+
+count_no_more : (n : ℕ) (p q : ℕ → Bool) → ((v : ℕ) → q v ≡ true → p v ≡ true) → count_below n q ≤ count_below n p
+count_no_more zero p q h = omega arith
+count_no_more (suc n) p q h = omega (arith, weight_less (q n) (p n) (h n), count_no_more n p q h)
+
+-- where one no longer passes, and no other begins to, they are fewer
+pub count_fewer : (n : ℕ) (p q : ℕ → Bool) → ((v : ℕ) → q v ≡ true → p v ≡ true) → (v : ℕ) → v < n → p v ≡ true → q v ≡ false → count_below n q < count_below n p
+count_fewer zero p q h v l pass fail = absurd (omega arith)
+count_fewer (suc n) p q h v l pass fail =
+    elim (cases_eq v n) [
+      | inl e ↦ (let now : weight (p n) ≡ 1 = ap (λ i. weight (p i)) (sym e) ∙ ap weight pass in let then' : weight (q n) ≡ 0 = ap (λ i. weight (q i)) (sym e) ∙ ap weight fail in omega (arith, count_no_more n p q h))
+      | inr ne ↦ omega (arith, weight_less (q n) (p n) (h n), count_fewer n p q h v (omega arith) pass fail)
+    ]
 
 -- sizes of sides that make up one another
 pub size-le_sum : (X Y Z : List Bool) → length Y ≡ length X → length Z ≡ length X → ((k : ℕ) → weight (has X k) ≤ weight (has Y k) + weight (has Z k)) → size X ≤ size Y + size Z

@@ -13,13 +13,14 @@ use Rattle.graph_core.specs.Families.{members_with}
 use Rattle.graph_core.specs.declared.graph.Line.{Line}
 use Rattle.graph_core.proofs.Counting.{weight}
 use Rattle.graph_core.proofs.FamilyLaws.{count_by-map, parted-or-within}
-use Rattle.matroid_union.proofs.Sizes.{length_of}
-use Rattle.graphic_matroid.specs.Labels.{class, splits, unfit}
+use Rattle.graph_core.proofs.SetLaws.{length_of}
+use Rattle.graph_core.specs.Labels.{class, splits}
+use Rattle.graphic_matroid.specs.Unfit.{unfit}
 use Rattle.graphic_matroid.specs.Roots.{AreClasses, IsRootOf}
 use Rattle.graphic_matroid.specs.Components.{AreComponents, classes_of}
 use Rattle.graph_core.proofs.SizeLaws.{weight_true, weight_false, weight_most, count-cons, count-le_three, sum_one}
 use Rattle.graph_core.proofs.SideLaws.{nonempty-has}
-use Rattle.graphic_matroid.specs.LabelLaws.{in_class, to_class, split_not}
+use Rattle.graph_core.proofs.LabelLaws.{in_class, to_class, split_not}
 use Rattle.graphic_matroid.specs.ForestLaws.{fit_ends}
 
 -- one number more

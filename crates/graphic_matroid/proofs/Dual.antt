@@ -12,16 +12,18 @@ use Rattle.graph_core.specs.Trees.{IsAcyclic}
 use Rattle.graph_core.specs.declared.graph.Line.{Line}
 use Rattle.graph_core.proofs.Counting.{weight}
 use Rattle.graph_core.proofs.FamilyLaws.{parted-or-within}
-use Rattle.matroid_union.specs.Sets.{set_of, plus}
+use Rattle.matroid_union.specs.Sets.{plus}
+use Rattle.graph_core.specs.Sets.{set_of}
 use Rattle.matroid_union.specs.Union.{names, row, IsUnion}
-use Rattle.matroid_union.proofs.Sizes.{length_of, has_of}
+use Rattle.graph_core.proofs.SetLaws.{length_of, has_of}
 use Rattle.graphic_matroid.specs.Chosen.{chosen}
-use Rattle.graphic_matroid.specs.Labels.{class, splits, unfit, Labels}
+use Rattle.graph_core.specs.Labels.{class, splits, Labels}
+use Rattle.graphic_matroid.specs.Unfit.{unfit}
 use Rattle.graphic_matroid.specs.Components.{AreComponents}
 use Rattle.graph_core.proofs.SizeLaws.{weight_true, weight_false, weight_most, count-cons, count-le_three}
 use Rattle.graph_core.proofs.SideLaws.{has-below}
 use Rattle.graphic_matroid.specs.ChosenLaws.{chosen-le, chosen-all, chosen-set, chosen-some, chosen-find}
-use Rattle.graphic_matroid.specs.LabelLaws.{in_class, to_class, split_is, split_not, forest_more}
+use Rattle.graph_core.proofs.LabelLaws.{in_class, to_class, split_is, split_not, forest_more}
 use Rattle.graphic_matroid.specs.ForestLaws.{labels_exist, Labelled, fit_ends}
 use Rattle.graphic_matroid.proofs.ComponentLaws.{differ_weights}
 

@@ -14,9 +14,9 @@ use Rattle.graph_core.specs.Trees.{IsForest, IsAcyclic}
 use Rattle.graph_core.specs.declared.graph.Line.{Line}
 use Rattle.graph_core.proofs.Counting.{weight, weighed, passes, sum_by-add, sum_by-agree, sum_by-same, sum_by-le_each, rows-le, sum_by-concat, length-le-sum_by, count_by-picked, count_by-picks, length-all_picked, All-picked}
 use Rattle.graph_core.proofs.FamilyLaws.{between-and-within, sum_by-size_of_partition, size-nonempty}
-use Rattle.matroid_union.specs.Sets.{set_of}
+use Rattle.graph_core.specs.Sets.{set_of}
 use Rattle.matroid_union.specs.Union.{names, row, IsUnion}
-use Rattle.matroid_union.proofs.Sizes.{has_of}
+use Rattle.graph_core.proofs.SetLaws.{has_of}
 use Rattle.graphic_matroid.specs.Chosen.{chosen}
 use Rattle.graphic_matroid.specs.Components.{AreComponents}
 use Rattle.graph_core.proofs.SizeLaws.{weight_true, weight_false, count-cons}

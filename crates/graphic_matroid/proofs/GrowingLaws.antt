@@ -7,11 +7,11 @@ use Rattle.graph_core.specs.Trees.{IsAcyclic}
 use Rattle.graph_core.specs.declared.graph.Line.{Line}
 use Rattle.graph_core.proofs.PutLaws.{size-put}
 use Rattle.graphic_matroid.specs.Chosen.{chosen}
-use Rattle.graphic_matroid.specs.Labels.{Adds}
+use Rattle.graph_core.specs.Labels.{Adds}
 use Rattle.graphic_matroid.specs.Roots.{AreRoots, AreClasses}
 use Rattle.graphic_matroid.specs.Growing.{IsGrowingForest}
 use Rattle.graphic_matroid.specs.ChosenLaws.{chosen-set}
-use Rattle.graphic_matroid.specs.ForestLaws.{forest_none}
+use Rattle.graph_core.proofs.LabelLaws.{forest_none}
 use Rattle.graphic_matroid.proofs.RootLaws.{classes_none, roots_none}
 
 chosen-replicate : (k : ℕ) (ls : List Line) → chosen (replicate k false) ls ≡ []

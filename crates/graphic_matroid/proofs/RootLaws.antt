@@ -6,11 +6,13 @@ use Rattle.std.proofs.lemmas.List.Elements.{All-head, All-tail}
 use Rattle.std.proofs.lemmas.List.{get_or-set_same, get_or-set_other}
 use Rattle.graph_core.specs.declared.graph.Line.{Line}
 use Rattle.graph_core.specs.Graph.{Fits}
-use Rattle.graphic_matroid.specs.Labels.{unfit, joined, Adds}
+use Rattle.graph_core.specs.Labels.{joined, Adds}
+use Rattle.graphic_matroid.specs.Unfit.{unfit}
 use Rattle.graph_core.proofs.SizeLaws.{weight_false, count-cons}
 use Rattle.graphic_matroid.specs.Roots.{AreRoots, AreClasses}
-use Rattle.graphic_matroid.specs.JoinLaws.{joined_at, joined_off, joined_same, labels_more}
-use Rattle.graphic_matroid.specs.ForestLaws.{labels_none, finest_none, finest_more}
+use Rattle.graph_core.proofs.JoinLaws.{joined_at, joined_off, joined_same, labels_more}
+use Rattle.graphic_matroid.specs.ForestLaws.{finest_none, finest_more}
+use Rattle.graph_core.proofs.LabelLaws.{labels_none}
 
 -- a write, read back
 at_set : (xs : List ℕ) (i v k : ℕ) → i < length xs → k ≡ i → get_or (set xs i v) k 0 ≡ v

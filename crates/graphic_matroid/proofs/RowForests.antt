@@ -10,13 +10,13 @@ use Rattle.graph_core.specs.Picked.{occurrences, IsDistinct, picked}
 use Rattle.graph_core.specs.Trees.{IsAcyclic, IsForest}
 use Rattle.graph_core.specs.declared.graph.Line.{Line}
 use Rattle.graph_core.proofs.Counting.{weight, weighed, count_by-picked, count_by-picks}
-use Rattle.matroid_union.specs.Sets.{set_of}
-use Rattle.matroid_union.proofs.Sizes.{has_of}
+use Rattle.graph_core.specs.Sets.{set_of}
+use Rattle.graph_core.proofs.SetLaws.{has_of}
 use Rattle.matroid_union.specs.Union.{names, row, IsUnion}
 use Rattle.graphic_matroid.specs.Chosen.{chosen}
 use Rattle.graph_core.proofs.SizeLaws.{weight_true, weight_false}
 use Rattle.graphic_matroid.specs.ChosenLaws.{chosen-cons}
-use Rattle.graphic_matroid.specs.ForestLaws.{forest_same}
+use Rattle.graph_core.proofs.LabelLaws.{forest_same}
 
 -- the lines of a set, counted by number
 pub chosen-weighed : (p : Line → Bool) (A : List Bool) (ls : List Line) → count_by p (chosen A ls) ≡ weighed p ls (λ j. weight (has A j))

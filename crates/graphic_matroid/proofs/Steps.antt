@@ -4,11 +4,12 @@ use Rattle.graph_core.specs.Side.{has}
 use Rattle.graph_core.specs.Trees.{IsAcyclic}
 use Rattle.graph_core.specs.declared.graph.Line.{Line}
 use Rattle.graphic_matroid.specs.Chosen.{chosen}
-use Rattle.graphic_matroid.specs.Labels.{joined, splits, Labels, Adds, Finest}
+use Rattle.graph_core.specs.Labels.{joined, splits, Labels, Adds, Finest}
 use Rattle.graphic_matroid.specs.Roots.{AreClasses, IsRootOf}
-use Rattle.graphic_matroid.specs.JoinLaws.{labels_more, joined_none}
-use Rattle.graphic_matroid.specs.LabelLaws.{circuit, forest_more}
-use Rattle.graphic_matroid.specs.ForestLaws.{finest_more, labels_same, forest_same, take_without}
+use Rattle.graph_core.proofs.JoinLaws.{labels_more, joined_none}
+use Rattle.graph_core.proofs.LabelLaws.{circuit, forest_more}
+use Rattle.graphic_matroid.specs.ForestLaws.{finest_more, take_without}
+use Rattle.graph_core.proofs.LabelLaws.{labels_same, forest_same}
 use Rattle.graphic_matroid.proofs.RootLaws.{classes_joined}
 
 -- the roots a and b of the two ends of a line

@@ -5,7 +5,7 @@ use Rattle.graph_core.specs.Side.{has}
 use Rattle.graph_core.specs.Lines.{degree, between}
 use Rattle.graph_core.specs.Families.{IsPartition}
 use Rattle.graph_core.specs.declared.graph.Line.{Line}
-use Rattle.graphic_matroid.specs.Labels.{class}
+use Rattle.graph_core.specs.Labels.{class}
 
 -- the components of the graph of n nodes with these lines
 pub record AreComponents (n : ℕ) (ls : List Line) (P : List (List Bool)) : Type 0 where

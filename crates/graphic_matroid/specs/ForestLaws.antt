@@ -1,7 +1,7 @@
 -- The forests of a graph are the free sets of a matroid.
-use Rattle.std.proofs.Common.{ℕ, ◌≡◌, ◌+◌, ◌<◌, ◌≤◌, Bool, true, false, cond, eqb, ltb, ◌&&◌, List, [], ◌∷◌, length, get_or, set, map, take, replicate, count_by, sym, refl, ap, ◌∙◌, arith, ⊎_elim, subst, zero-add, add-one}
+use Rattle.std.proofs.Common.{ℕ, ◌≡◌, ◌+◌, ◌<◌, ◌≤◌, Bool, true, false, cond, eqb, ltb, ◌&&◌, List, [], ◌∷◌, length, get_or, set, take, replicate, count_by, sym, refl, ap, ◌∙◌, arith, ⊎_elim, subst, zero-add, add-one}
 use Rattle.std.specs.List.{range_with_len, sum_by}
-use Rattle.std.proofs.lemmas.Bool.{cases_Bool, ne_eqb, and_parts, and_from, and_left, not-false, ltb-true, false_from_ne_true, cases_eq}
+use Rattle.std.proofs.lemmas.Bool.{cases_Bool, and_parts, and_from, and_left, not-false, ltb-true, false_from_ne_true, cases_eq}
 use Rattle.std.proofs.lemmas.List.Sums.{get_or-le-sum_by}
 use Rattle.std.proofs.lemmas.List.FromFn.{length-range_with_len, get_or-range_with_len}
 use Rattle.graph_core.proofs.FamilyLaws.{size-nonempty}
@@ -11,12 +11,14 @@ use Rattle.graph_core.specs.Trees.{IsAcyclic}
 use Rattle.graph_core.specs.declared.graph.Line.{Line}
 use Rattle.matroid_union.specs.Matroid.{IsMatroid, Takes}
 use Rattle.graphic_matroid.specs.Chosen.{chosen}
-use Rattle.graphic_matroid.specs.Labels.{class, splits, joined, unfit, Labels, Adds, Finest}
+use Rattle.graph_core.specs.Labels.{class, splits, joined, Labels, Adds, Finest}
+use Rattle.graphic_matroid.specs.Unfit.{unfit}
 use Rattle.graphic_matroid.specs.ChosenLaws.{chosen-le, chosen-all, chosen-none, chosen-set, chosen-some, chosen-find, chosen-size, chosen-take, chosen-take_le}
-use Rattle.graphic_matroid.specs.LabelLaws.{in_class, to_class, split_not, split_is, forest_more}
-use Rattle.graphic_matroid.specs.JoinLaws.{labels_more, joined_at, joined_off}
+use Rattle.graph_core.proofs.LabelLaws.{in_class, to_class, split_not, split_is, forest_more}
+use Rattle.graph_core.proofs.LabelLaws.{labels_none}
+use Rattle.graph_core.proofs.JoinLaws.{labels_more, joined_at, joined_off}
 use Rattle.graph_core.proofs.Counting.{weight, sum_by-add, sum_by-swap}
-use Rattle.matroid_union.proofs.Sizes.{length_of}
+use Rattle.graph_core.proofs.SetLaws.{length_of}
 use Rattle.graph_core.proofs.SizeLaws.{weight_true, weight_false, weight_most, count-cons, count-none, sum-le, sum_one, some_or_none}
 use Rattle.graph_core.proofs.SideLaws.{nonempty-has}
 
@@ -29,20 +31,6 @@ fit_ends n l h =
 zero_weight : (b : Bool) → weight b ≡ 0 → b ≡ false
 zero_weight false e = refl
 zero_weight true e = absurd (omega arith)
-
-pub count-map : (f : ℕ → Bool) (xs : List ℕ) → count_by (λ b. b) (map f xs) ≡ count_by f xs
-count-map f [] = refl
-count-map f (x ∷ xs) = omega (arith, count-cons (λ (b : Bool). b) (f x) (map f xs), count-cons f x xs, count-map f xs)
-
-pub labels_none : (n : ℕ) → Labels n (λ v. v) []
-labels_none n = record {
-  below = λ v l. l;
-  closed = refl;
-  tight = λ r.
-      let once : count_by (λ v. eqb v r) (range_with_len 0 n) ≤ 1 = sum_one (λ v. weight (eqb v r)) r 0 n (λ v. weight_most (eqb v r)) (λ v ne. weight_false (eqb v r) (ne_eqb v r ne)) in
-      let same : size (class n (λ v. v) r) ≡ count_by (λ v. eqb v r) (range_with_len 0 n) = count-map (λ v. eqb v r) (range_with_len 0 n) in
-      omega arith;
-}
 
 pub finest_none : Finest (λ v. v) []
 finest_none = record { coarser = λ f _ u v e. ap f e }
@@ -186,17 +174,6 @@ module _ (n : ℕ) (ls : List Line) (fit : count_by (unfit n) ls ≡ 0) where
   pub forest_matroid : IsMatroid (length ls) (λ A. IsAcyclic n (chosen A ls))
   forest_matroid = record { empty = forest_empty; part = forest_part; take = forest_take }
 
-module _ (n : ℕ) (ls more : List Line) (same : (p : Line → Bool) → count_by p more ≡ count_by p ls) where
-  pub labels_same : (lab : ℕ → ℕ) → Labels n lab ls → Labels n lab more
-  labels_same lab w = record {
-    below = w.below;
-    closed = same (splits lab) ∙ w.closed;
-    tight = λ r. let e = same (within (class n lab r)) in let t = w.tight r in omega arith;
-  }
-
-  pub forest_same : IsAcyclic n ls → IsAcyclic n more
-  forest_same f X w = let g : count_by (within X) ls < size X = f X w in let e = same (within X) in omega arith
-
 module _ (n : ℕ) (A : List Bool) (ls : List Line) (j : ℕ) (la : j < length A) (ll : j < length ls) (d : Line) where
   -- a line that isn't in the set changes nothing
   pub take_without : has A j ≡ false → (p : Line → Bool) → count_by p (chosen (take (j + 1) A) (take (j + 1) ls)) ≡ count_by p (chosen (take j A) (take j ls))
@@ -208,6 +185,3 @@ module _ (n : ℕ) (A : List Bool) (ls : List Line) (j : ℕ) (la : j < length A
 -- the first lines of a forest
 pub forest_front : (n : ℕ) (A : List Bool) (ls : List Line) (j : ℕ) → IsAcyclic n (chosen A ls) → IsAcyclic n (chosen (take j A) (take j ls))
 forest_front n A ls j f X w = let g : count_by (within X) (chosen A ls) < size X = f X w in omega (arith, chosen-take_le (within X) A ls j)
-
-pub forest_none : (n : ℕ) → IsAcyclic n []
-forest_none n X w = size-nonempty X w.some_in

@@ -1,10 +1,8 @@
 pub mod Chosen
-pub mod Labels
-pub mod Roots
-pub mod Growing
-pub mod Components
-pub mod Forests
 pub mod ChosenLaws
-pub mod LabelLaws
-pub mod JoinLaws
+pub mod Components
 pub mod ForestLaws
+pub mod Forests
+pub mod Growing
+pub mod Roots
+pub mod Unfit

@@ -1,7 +1,7 @@
 -- Classes of nodes as trees of parents.
 use Rattle.std.specs.Prelude.{◌≡◌, ◌≢◌, ℕ, ◌<◌, List, length, slice_index}
 use Rattle.graph_core.specs.declared.graph.Line.{Line}
-use Rattle.graphic_matroid.specs.Labels.{Labels, Finest}
+use Rattle.graph_core.specs.Labels.{Labels, Finest}
 
 -- each node has a parent; one that isn't its own parent has a smaller rank than it
 pub record AreRoots (n : ℕ) (parents ranks : List ℕ) : Type 0 where

@@ -1,7 +1,7 @@
 ghost use Rattle.std.specs.Prelude.{◌≡◌, ◌≢◌, ◌⊎◌, ◌↔◌, ℕ, ◌+◌, ◌<◌, ◌≤◌, ◌^◌, List, length, slice_index, slice_set, IsTrue, IsSome, IfSome, IfNone, IfOk};
 ghost use Rattle.graph_core.specs.Trees.{IsAcyclic};
 ghost use Rattle.graph_core.specs.declared.graph.Line.{Line as LineOf};
-ghost use Rattle.graphic_matroid.specs.Labels.{Adds};
+ghost use Rattle.graph_core.specs.Labels.{Adds};
 ghost use Rattle.graphic_matroid.specs.Roots.{AreRoots, AreClasses, HaveOneRoot, HaveTwoRoots};
 
 use graph_core::{Line, NoMemory};

@@ -1,7 +1,8 @@
 ghost use Rattle.std.specs.Prelude.{◌≡◌, ℕ, ◌<◌, ◌≤◌, ◌^◌, length, slice_index, count_by, IfOk};
 ghost use Rattle.graphic_matroid.specs.Chosen.{chosen};
 ghost use Rattle.graphic_matroid.specs.Components.{AreComponents, classes_of};
-ghost use Rattle.graphic_matroid.specs.Labels.{unfit, class};
+ghost use Rattle.graph_core.specs.Labels.{class};
+ghost use Rattle.graphic_matroid.specs.Unfit.{unfit};
 ghost use Rattle.graphic_matroid.specs.Roots.{AreRoots, AreClasses, IsRootOf};
 
 use crate::classes::Classes;
@@ -18,6 +19,14 @@ pub fn components(alloc: Global, graph: &Graph, marks: &Marks) -> Result<Sides, 
     join_marked(&mut classes, graph.lines(), marks);
     let roots = roots_of(alloc, &classes)?;
     sides_of(alloc, &roots)
+}
+
+/// The components of the graph.
+pub fn graph_components(alloc: Global, graph: &Graph) -> Result<Sides, NoMemory>
+    ensures { IfOk result (AreComponents (length graph.now.names) graph.now.lines) }
+{
+    let all = Marks::from_vec(Vec::from_elem(alloc, true, graph.line_count())?);
+    components(alloc, graph, &all)
 }
 
 /// Makes the classes those that the marked lines join.

@@ -1,7 +1,7 @@
 ghost use Rattle.std.specs.Prelude.{◌≡◌, ◌↔◌, ◌<◌, ◌≤◌, ◌^◌, length, count_by, IsTrue, IfOk};
 ghost use Rattle.graph_core.specs.Trees.{IsAcyclic};
 ghost use Rattle.graphic_matroid.specs.Chosen.{chosen};
-ghost use Rattle.graphic_matroid.specs.Labels.{unfit};
+ghost use Rattle.graphic_matroid.specs.Unfit.{unfit};
 
 use crate::classes::Classes;
 use graph_core::{Graph, Line, Marks, NoMemory};

@@ -6,6 +6,6 @@ mod component;
 mod forests;
 mod graphic;
 
-pub use component::components;
+pub use component::{components, graph_components};
 pub use forests::{Forests, most_forests, no_more_lines};
 pub use graphic::{Graphic, GrowingForest};

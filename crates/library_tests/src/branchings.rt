@@ -29,7 +29,7 @@ const THRICE: &[u8] =
     b"graph directed\nnode a\nnode b\nnode c\narc a b\narc a b\narc a b\narc b c\narc b c\nend\n";
 
 /// A side of three nodes.
-fn side(alloc: Global, a: bool, b: bool, c: bool) -> Result<Side, NoMemory>
+pub fn side(alloc: Global, a: bool, b: bool, c: bool) -> Result<Side, NoMemory>
     ensures { IfOk result (λ side. side ≡ a ∷ b ∷ c ∷ []) }
 {
     let mut side = Side::empty(alloc, 3)?;

@@ -8,7 +8,7 @@ use std::process::Abort;
 use std::test::Fail;
 
 // A graph, a certificate for it, and the checker's answer.
-const CHECKS: [(&[u8], &str, Result<(), Rejection>); 49] = [
+const CHECKS: [(&[u8], &str, Result<(), Rejection>); 51] = [
     // Walks across the square.
     (
         SQUARE,
@@ -72,9 +72,20 @@ const CHECKS: [(&[u8], &str, Result<(), Rejection>); 49] = [
     ),
     // A command that isn't checked yet.
     (
+        COMPLETE,
+        "certificate 1\ncommand dijoin\nvalue 0\njoin\ndual dicuts\nend\n",
+        Err(Rejection::Malformed { line: 2 }),
+    ),
+    // A square needs no edge. The second text goes on behind its end.
+    (
+        SQUARE,
+        "certificate 1\ncommand augment 2\nvalue 0\ndual subpartition\nend\n",
+        Ok(()),
+    ),
+    (
         SQUARE,
         "certificate 1\ncommand augment 2\nvalue 0\ndual subpartition\nend\nend\n",
-        Err(Rejection::Malformed { line: 2 }),
+        Err(Rejection::Malformed { line: 6 }),
     ),
     (SQUARE, "", Err(Rejection::Malformed { line: 1 })),
     // Cut trees of the square.

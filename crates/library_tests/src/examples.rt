@@ -23,7 +23,12 @@ pub const EDGE: &[u8] = b"graph undirected\nnode a\nnode b\nedge a b\nend\n";
 
 pub const ARC: &[u8] = b"graph directed\nnode a\nnode b\narc a b\nend\n";
 
+pub const TWO_ALONE: &[u8] = b"graph directed\nnode a\nnode b\nend\n";
+
 pub const PATH: &[u8] = b"graph undirected\nnode a\nnode b\nnode c\nedge a b\nedge b c\nend\n";
+
+pub const TRIANGLE: &[u8] =
+    b"graph undirected\nnode a\nnode b\nnode c\nedge a b\nedge b c\nedge a c\nend\n";
 
 /// A ring of twelve nodes and four chords, with comments, tabs and CR LF.
 pub const BACKBONE: &[u8] =

@@ -3,7 +3,7 @@
 ghost use Rattle.std.specs.Prelude.{◌≡◌, ◌<◌, ◌≤◌, All, IfOk, IsTrue, length};
 
 use crate::asserts::same;
-use flow_cuts::{Cap, Flow};
+use flow_cuts::{Cap, Flow, sparse_side};
 use graph_core::{NoMemory, Side};
 use std::alloc::{AllocError, Global};
 use std::process::Abort;
@@ -21,7 +21,7 @@ fn fit(n: usize, arcs: &[Cap]) -> bool
         .all(|arc| (arc.tail as usize) < n && (arc.head as usize) < n)
 }
 
-fn side_of(alloc: Global, n: usize, nodes: &[u32]) -> Result<Side, NoMemory>
+pub fn side_of(alloc: Global, n: usize, nodes: &[u32]) -> Result<Side, NoMemory>
     requires { n ≤ 8192 }
     ensures { IfOk result (λ side. length side ≡ n) }
 {
@@ -32,7 +32,7 @@ fn side_of(alloc: Global, n: usize, nodes: &[u32]) -> Result<Side, NoMemory>
     Ok(side)
 }
 
-fn is_side_of(side: &Side, nodes: &[u32]) -> bool
+pub fn is_side_of(side: &Side, nodes: &[u32]) -> bool
     requires { length side.now ≤ 8192 }
 {
     for v in 0..side.len() as u32 {
@@ -142,6 +142,34 @@ fn runs_answer_least_cuts_of_small_networks(rt: HostRuntime) -> Result<(), Fail>
     shows(&rt, rt.alloc(), 2, &wide, &there)?;
     let back = row(&[1], &[0], u64::MAX, 5, &[1], &[1]);
     shows(&rt, rt.alloc(), 2, &wide, &back)?;
+    Ok(())
+}
+
+/// Asserts which side of a network less than `least` leaves, if any.
+fn shows_sparse(
+    rt: &impl Abort,
+    alloc: Global,
+    arcs: &[Cap],
+    least: u64,
+    nodes: Option<&[u32]>,
+) -> Result<(), NoMemory> {
+    assert!(rt; arcs.len() <= 262144 && fit(2, arcs));
+    match (sparse_side(alloc, 2, arcs, least)?, nodes) {
+        (Some(side), Some(nodes)) => {
+            assert!(rt; side.len() == 2);
+            same(rt, &is_side_of(&side, nodes), &true, &least);
+        }
+        (None, None) => {}
+        (found, _) => same(rt, &found.is_some(), &nodes.is_some(), &least),
+    }
+    Ok(())
+}
+
+#[test]
+fn a_side_that_too_little_leaves_is_found(rt: HostRuntime) -> Result<(), Fail> {
+    let arcs = [arc(0, 1, 3), arc(1, 0, 2)];
+    shows_sparse(&rt, rt.alloc(), &arcs, 2, None)?;
+    shows_sparse(&rt, rt.alloc(), &arcs, 3, Some(&[1]))?;
     Ok(())
 }
 

@@ -1,6 +1,6 @@
 //! Values worked out by hand, on a graph and on a digraph with the same lines.
 
-ghost use Rattle.std.specs.Prelude.{◌≡◌, [], ◌∷◌, IfOk, length};
+ghost use Rattle.std.specs.Prelude.{◌≡◌, ◌<◌, [], ◌∷◌, All, IfOk, IsTrue, length};
 ghost use Rattle.graph_core.specs.Side.{IsProper};
 ghost use Rattle.graph_core.specs.Families.{IsPartition};
 
@@ -263,6 +263,37 @@ fn new_lines_stand_behind_those_of_the_graph(rt: HostRuntime) -> Result<(), Fail
         let graph = graph_of(rt.alloc(), text)?;
         assert!(rt; graph.node_count() == 4 && graph.line_count() == 5);
         has_grown(&rt, &graph.plus(rt.alloc(), &more)?, kind);
+    }
+    Ok(())
+}
+
+/// Whether each number is that of a line.
+fn are_lines(graph: &Graph, row: &[u32]) -> bool
+    ensures { IsTrue result → All (λ j. j < length graph.now.lines) row.now }
+{
+    row.iter().all(|j| (*j as usize) < graph.line_count())
+}
+
+#[test]
+fn a_copy_has_the_same_lines_and_the_same_forests(rt: HostRuntime) -> Result<(), Fail> {
+    let rows: [(&[u32], bool); 6] = [
+        (&[], true),
+        (&[0, 3], true),
+        (&[4, 0], true),
+        (&[0, 1], false),
+        (&[3, 3], false),
+        (&[0, 3, 4], false),
+    ];
+    for (kind, text) in GRAPHS {
+        let graph = graph_of(rt.alloc(), text)?;
+        let copy = graph.copy(rt.alloc())?;
+        same(&rt, &copy.kind(), &kind, &kind);
+        same(&rt, &copy.node_count(), &graph.node_count(), &kind);
+        same(&rt, &copy.lines(), &graph.lines(), &kind);
+        for (row, forest) in rows {
+            assert!(rt; are_lines(&copy, row));
+            same(&rt, &copy.is_forest(rt.alloc(), row)?, &forest, &row);
+        }
     }
     Ok(())
 }

@@ -2,7 +2,13 @@
 #![tactic(auto)]
 
 #[cfg(test)]
+mod arc_augmentation;
+#[cfg(test)]
+mod arc_splitting;
+#[cfg(test)]
 mod asserts;
+#[cfg(test)]
+mod augmentation;
 #[cfg(test)]
 mod branchings;
 #[cfg(test)]
@@ -22,7 +28,15 @@ mod graph_texts;
 #[cfg(test)]
 mod graphs;
 #[cfg(test)]
+mod large;
+#[cfg(test)]
 mod matroids;
+#[cfg(test)]
+mod orientation;
+#[cfg(test)]
+mod splitting;
+#[cfg(test)]
+mod stars;
 #[cfg(test)]
 mod streams;
 #[cfg(test)]

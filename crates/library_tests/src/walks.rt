@@ -11,6 +11,7 @@ ghost use Rattle.flow_cuts.specs.GraphArcs.{arcs_of};
 use crate::asserts::same;
 use crate::examples::{SQUARE, graph_of};
 use cut_fn::EdgeCut;
+use failing_links::{failures_that_part, no_longer_plan};
 use flow_cuts::{capacity_is_the_cut, least_cuts_meet_and_join, most_walks};
 use graph_core::{Graph, Kind, Line, NumberRows};
 use problem_defs::{Certified, FlowAsk, Problem, best};
@@ -124,6 +125,7 @@ fn value_and_bound(graph: &Graph, found: &Certified<FlowAsk>) -> (u64, u64)
     ensures { result.0 ≡ result.1 }
 {
     best(graph, found, &found.object);
+    no_longer_plan(graph, found, &found.object);
     (
         found.ask.value(graph, &found.object),
         found.ask.bound(graph, &found.dual),
@@ -152,6 +154,8 @@ fn are_found(
         );
         let want = (count as u64, count as u64);
         same(rt, &value_and_bound(&graph, &found), &want, &(from, to));
+        let failures = failures_that_part(alloc, &graph, from, to)?;
+        same(rt, &failures, &(count as u64), &(from, to));
         least_cuts_of_edges_meet(&graph);
     }
     Ok(())

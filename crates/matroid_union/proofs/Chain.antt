@@ -6,7 +6,8 @@ use Rattle.std.proofs.lemmas.List.Sums.{sum_by-set}
 use Rattle.std.specs.Option.{is_none}
 use Rattle.graph_core.specs.Side.{has}
 use Rattle.matroid_union.specs.Matroid.{IsMatroid}
-use Rattle.matroid_union.specs.Sets.{set_of, plus, minus, swap}
+use Rattle.matroid_union.specs.Sets.{plus, minus, swap}
+use Rattle.graph_core.specs.Sets.{set_of}
 use Rattle.matroid_union.specs.Parts.{holds, part, own_of, spare, moved, IsPacking, Entered, Tree, End}
 use Rattle.matroid_union.proofs.Members.{plus-old, plus-new, plus-cases, minus-out, minus-parts, swap-old, swap-new, swap-cases}
 use Rattle.matroid_union.proofs.Exchanges.{part_of, swap_joined, swap_left}

@@ -3,9 +3,11 @@ use Rattle.std.proofs.Common.{ℕ, zero, suc, ◌≡◌, ◌≢◌, ◌+◌, ◌
 use Rattle.std.proofs.lemmas.Bool.{cases_lt, cases_eq, both_ways}
 use Rattle.graph_core.specs.Side.{size}
 use Rattle.matroid_union.specs.Matroid.{IsMatroid}
-use Rattle.matroid_union.specs.Sets.{set_of, plus, minus, swap}
+use Rattle.matroid_union.specs.Sets.{plus, minus, swap}
+use Rattle.graph_core.specs.Sets.{set_of}
 use Rattle.matroid_union.proofs.Members.{plus-old, plus-new, plus-cases, plus-false, minus-in, minus-out, swap-old, swap-new, swap-cases}
-use Rattle.matroid_union.proofs.Sizes.{has_of, length_of, set-plus, count-full, count-plus, count-minus, count-swap}
+use Rattle.matroid_union.proofs.Sizes.{set-plus, count-full, count-plus, count-minus, count-swap}
+use Rattle.graph_core.proofs.SetLaws.{has_of, length_of}
 
 -- a member of g that f can take
 pub record Gives (n : ℕ) (free : List Bool → Type 0) (f g : ℕ → Bool) : Type 0 where

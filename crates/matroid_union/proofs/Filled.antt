@@ -5,10 +5,12 @@ use Rattle.std.proofs.lemmas.Bool.{cases_eq, cases_lt, lt-leb, le-leb, and_parts
 use Rattle.std.proofs.lemmas.List.{length-set, get_or-set_same, get_or-set_other, length-replicate, get_or-replicate, get_or_append_left, get_or_push, length_push}
 use Rattle.std.proofs.lemmas.List.FromFn.{fill_by_all}
 use Rattle.std.proofs.lemmas.Option.{slice_get_within, slice_get-get_or, get_or_from_slice_get}
-use Rattle.matroid_union.specs.Sets.{set_of, plus}
+use Rattle.matroid_union.specs.Sets.{plus}
+use Rattle.graph_core.specs.Sets.{set_of}
 use Rattle.matroid_union.specs.Growing.{IsFilled, AreKept, AreFilled}
 use Rattle.matroid_union.proofs.Members.{plus-new, plus-other}
-use Rattle.matroid_union.proofs.Sizes.{has_of, length_of, set-plus}
+use Rattle.matroid_union.proofs.Sizes.{set-plus}
+use Rattle.graph_core.proofs.SetLaws.{has_of, length_of}
 
 and_true : (b : Bool) → (b && true) ≡ b
 and_true true = refl

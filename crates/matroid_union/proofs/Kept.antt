@@ -3,7 +3,8 @@ use Rattle.std.proofs.Common.{ℕ, ◌≡◌, ◌≢◌, ◌+◌, ◌<◌, ◌�
 use Rattle.std.proofs.lemmas.Bool.{cases_eq, cases_lt, cases_Bool, both_ways, and_parts, and_from, or_cases, or_left, or_right, or_from, and_left, and_right, leb-true, le-leb, lt-leb}
 use Rattle.graph_core.specs.Side.{has}
 use Rattle.matroid_union.specs.Matroid.{IsMatroid}
-use Rattle.matroid_union.specs.Sets.{set_of, plus, swap}
+use Rattle.matroid_union.specs.Sets.{plus, swap}
+use Rattle.graph_core.specs.Sets.{set_of}
 use Rattle.matroid_union.specs.Parts.{part, kept}
 use Rattle.matroid_union.proofs.Members.{plus-old, plus-new, plus-cases, plus-false, plus-other}
 use Rattle.matroid_union.proofs.Exchanges.{part_of, found}

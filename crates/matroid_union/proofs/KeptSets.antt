@@ -5,7 +5,8 @@ use Rattle.std.proofs.lemmas.Bool.{cases_eq, and_left}
 use Rattle.std.proofs.lemmas.List.{get_or-set_same, get_or-set_other}
 use Rattle.graph_core.specs.Side.{has}
 use Rattle.matroid_union.specs.Matroid.{IsMatroid}
-use Rattle.matroid_union.specs.Sets.{set_of, plus}
+use Rattle.matroid_union.specs.Sets.{plus}
+use Rattle.graph_core.specs.Sets.{set_of}
 use Rattle.matroid_union.specs.Growing.{IsFilled, AreFilled}
 use Rattle.matroid_union.specs.Parts.{part, kept, moved}
 use Rattle.matroid_union.proofs.Members.{plus-cases, plus-new, plus-other}

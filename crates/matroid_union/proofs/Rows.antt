@@ -7,7 +7,8 @@ use Rattle.std.proofs.lemmas.List.FromFn.{length-map-range_with_len, get_or-map-
 use Rattle.std.proofs.lemmas.List.Sums.{sum_by-cons, sum_by-append}
 use Rattle.graph_core.specs.Side.{has}
 use Rattle.matroid_union.specs.Matroid.{IsMatroid}
-use Rattle.matroid_union.specs.Sets.{set_of, plus}
+use Rattle.matroid_union.specs.Sets.{plus}
+use Rattle.graph_core.specs.Sets.{set_of}
 use Rattle.matroid_union.specs.Parts.{part, kept, members, rows_of, IsPacking}
 use Rattle.matroid_union.specs.Search.{AreDead}
 use Rattle.graph_core.specs.Picked.{occurrences}
@@ -16,7 +17,7 @@ use Rattle.matroid_union.proofs.Members.{plus-old, plus-new, plus-cases}
 use Rattle.matroid_union.proofs.Exchanges.{part_of}
 use Rattle.matroid_union.proofs.Kept.{kept-part, kept-cases}
 use Rattle.matroid_union.proofs.Chain.{holds_is, holds_same, holds_other, holds_none}
-use Rattle.matroid_union.proofs.Sizes.{has_of, length_of}
+use Rattle.graph_core.proofs.SetLaws.{has_of, length_of}
 use Rattle.std.proofs.lemmas.Option.{get_or_from_slice_get}
 use Rattle.std.proofs.lemmas.List.{length-set, get_or-set_same, get_or-set_other, length-replicate, get_or-replicate, get_or_past, map-id, append-nil, drop_all, take_all}
 

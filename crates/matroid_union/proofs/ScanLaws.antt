@@ -5,7 +5,8 @@ use Rattle.std.proofs.lemmas.List.{get_or_append_left, length_push}
 use Rattle.std.proofs.lemmas.List.Sums.{count_by-le-length}
 use Rattle.graph_core.specs.Side.{has, size}
 use Rattle.matroid_union.specs.Matroid.{IsMatroid}
-use Rattle.matroid_union.specs.Sets.{set_of, plus, swap}
+use Rattle.matroid_union.specs.Sets.{plus, swap}
+use Rattle.graph_core.specs.Sets.{set_of}
 use Rattle.matroid_union.specs.Parts.{part, kept}
 use Rattle.matroid_union.specs.Search.{Begins, IsShut, IsFull, IsSearch}
 use Rattle.matroid_union.proofs.SearchLaws.{mark_old, full_more, search_push, begins_push}

@@ -5,7 +5,8 @@ use Rattle.std.proofs.lemmas.List.{length-set, get_or-set_same, get_or-set_other
 use Rattle.std.proofs.lemmas.List.Sums.{sum_by-set}
 use Rattle.graph_core.specs.Side.{has, size}
 use Rattle.matroid_union.specs.Matroid.{IsMatroid}
-use Rattle.matroid_union.specs.Sets.{set_of, plus, swap}
+use Rattle.matroid_union.specs.Sets.{plus, swap}
+use Rattle.graph_core.specs.Sets.{set_of}
 use Rattle.matroid_union.specs.Parts.{holds, part, kept, Entered, Tree}
 use Rattle.matroid_union.specs.Search.{Begins, IsFull, AreDead, IsSearch}
 use Rattle.matroid_union.proofs.Members.{plus-old, plus-new, plus-cases, swap-old, swap-new}

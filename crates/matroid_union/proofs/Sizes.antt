@@ -1,11 +1,13 @@
 -- How many elements a set has.
-use Rattle.std.proofs.Common.{ℕ, zero, suc, ◌≡◌, ◌+◌, ◌<◌, ◌≤◌, Bool, true, false, cond, List, [], ◌∷◌, length, get_or, set, sym, refl, ap, ◌∙◌, arith, zero-add, ⊎_elim}
+use Rattle.std.proofs.Common.{ℕ, zero, suc, ◌≡◌, ◌+◌, ◌<◌, ◌≤◌, Bool, true, false, cond, List, [], ◌∷◌, length, get_or, set, sym, refl, ap, ◌∙◌, arith, ⊎_elim}
 use Rattle.std.proofs.lemmas.Bool.{cases_lt, cases_eq, both_ways}
 use Rattle.std.proofs.lemmas.List.{length-set, get_or-set_same, get_or-set_other, get_or_past}
 use Rattle.std.proofs.lemmas.List.Sums.{sum_by-cons, sum_by-set}
-use Rattle.std.proofs.lemmas.List.FromFn.{length-map-range_with_len, get_or-map-range_with_len, fill_by_all}
+use Rattle.std.proofs.lemmas.List.FromFn.{fill_by_all}
 use Rattle.graph_core.specs.Side.{has, size}
-use Rattle.matroid_union.specs.Sets.{set_of, plus, minus, swap}
+use Rattle.matroid_union.specs.Sets.{plus, minus, swap}
+use Rattle.graph_core.specs.Sets.{set_of}
+use Rattle.graph_core.proofs.SetLaws.{has_of, length_of}
 use Rattle.matroid_union.proofs.Members.{plus-old, plus-new, plus-cases, minus-in, minus-parts, minus-out, minus-gone, plus-other}
 
 abbrev weight : Bool → ℕ
@@ -50,12 +52,6 @@ size-full (a ∷ X) (b ∷ Y) e h l (suc k) p =
     let x = size-cons a X in
     let y = size-cons b Y in
     size-full X Y (omega arith) (λ k. h (suc k)) (omega arith) k p
-
-pub has_of : (n : ℕ) (f : ℕ → Bool) (k : ℕ) → k < n → has (set_of n f) k ≡ f k
-has_of n f k l = get_or-map-range_with_len f 0 n k k false l (zero-add k)
-
-pub length_of : (n : ℕ) (f : ℕ → Bool) → length (set_of n f) ≡ n
-length_of n f = length-map-range_with_len f 0 n
 
 module _ (n : ℕ) (f g : ℕ → Bool) where
   has_sub : ((k : ℕ) → k < n → f k ≡ true → g k ≡ true) → (k : ℕ) → has (set_of n f) k ≡ true → has (set_of n g) k ≡ true

@@ -1,6 +1,6 @@
 -- Free sets that grow, one for each part.
 use Rattle.std.specs.Prelude.{◌≡◌, ℕ, Bool, List, length, slice_get, Some}
-use Rattle.matroid_union.specs.Sets.{set_of}
+use Rattle.graph_core.specs.Sets.{set_of}
 
 -- a set that has the elements below n that pass a test, and no other
 pub record IsFilled {S : Type 0} (keeps : S → Type 0) (members : S → List Bool) (n : ℕ) (f : ℕ → Bool) (set : S) : Type 0 where

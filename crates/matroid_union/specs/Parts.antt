@@ -3,7 +3,8 @@ use Rattle.std.specs.Prelude.{◌≡◌, ℕ, ◌<◌, ◌==◌, nat_le, Bool, f
 use Rattle.std.specs.List.{filter, range_with_len}
 use Rattle.std.specs.Option.{is_none}
 use Rattle.graph_core.specs.Side.{has}
-use Rattle.matroid_union.specs.Sets.{set_of, plus, swap}
+use Rattle.matroid_union.specs.Sets.{plus, swap}
+use Rattle.graph_core.specs.Sets.{set_of}
 
 -- whether part p is meant
 abbrev pub holds : Option ℕ → ℕ → Bool

@@ -1,7 +1,8 @@
 -- A search from an element that no part has.
 use Rattle.std.specs.Prelude.{◌≡◌, ◌⊎◌, ◌+◌, ℕ, ◌<◌, ◌≤◌, Bool, true, false, List, length, slice_index, Option}
 use Rattle.graph_core.specs.Side.{has, size}
-use Rattle.matroid_union.specs.Sets.{set_of, plus}
+use Rattle.matroid_union.specs.Sets.{plus}
+use Rattle.graph_core.specs.Sets.{set_of}
 use Rattle.matroid_union.specs.Parts.{part, kept, Tree}
 
 -- where an element stands in the queue

@@ -3,7 +3,8 @@ use Rattle.std.specs.Prelude.{◌≡◌, ℕ, ◌<◌, ◌==◌, Bool, true, fal
 use Rattle.std.specs.List.{list_any, concat}
 use Rattle.graph_core.specs.Side.{has}
 use Rattle.graph_core.specs.Picked.{IsDistinct}
-use Rattle.matroid_union.specs.Sets.{set_of, plus}
+use Rattle.matroid_union.specs.Sets.{plus}
+use Rattle.graph_core.specs.Sets.{set_of}
 
 -- whether a row names an element
 abbrev pub names : List ℕ → ℕ → Bool

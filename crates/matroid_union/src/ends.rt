@@ -1,5 +1,6 @@
 ghost use Rattle.std.specs.Prelude.{◌≡◌, ℕ, ◌<◌, length, IsTrue, IfSome, None, true, false, slice_index};
-ghost use Rattle.matroid_union.specs.Sets.{set_of, plus};
+ghost use Rattle.matroid_union.specs.Sets.{plus};
+ghost use Rattle.graph_core.specs.Sets.{set_of};
 ghost use Rattle.matroid_union.specs.Growing.{AreFilled};
 ghost use Rattle.matroid_union.specs.Parts.{own_of, part, End};
 ghost use Rattle.matroid_union.specs.Search.{IsShut};

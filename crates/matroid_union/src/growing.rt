@@ -1,5 +1,5 @@
 ghost use Rattle.std.specs.Prelude.{◌≡◌, ◌^◌, ℕ, ◌<◌, length, IfOk, false};
-ghost use Rattle.matroid_union.specs.Sets.{set_of};
+ghost use Rattle.graph_core.specs.Sets.{set_of};
 ghost use Rattle.matroid_union.specs.Parts.{own_of, part, kept, IsPacking};
 ghost use Rattle.matroid_union.specs.Growing.{IsFilled, AreKept, AreFilled};
 

@@ -1,6 +1,7 @@
 ghost use Rattle.std.specs.Prelude.{◌≡◌, ◌^◌, ℕ, ◌<◌, length, true, false};
 ghost use Rattle.graph_core.specs.Side.{has};
-ghost use Rattle.matroid_union.specs.Sets.{set_of, plus, swap};
+ghost use Rattle.matroid_union.specs.Sets.{plus, swap};
+ghost use Rattle.graph_core.specs.Sets.{set_of};
 ghost use Rattle.matroid_union.specs.Parts.{own_of, part, kept, holds};
 
 use crate::growing::fill_set;

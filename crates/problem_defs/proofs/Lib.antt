@@ -1,5 +1,3 @@
-pub mod Suited
 pub mod BestLaw
-pub mod FlowCert
-pub mod PartsCert
-pub mod TreeCert
+pub mod NeverLaw
+pub mod VerbLaws

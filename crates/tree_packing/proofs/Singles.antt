@@ -8,8 +8,8 @@ use Rattle.graph_core.specs.Lines.{crosses}
 use Rattle.graph_core.specs.declared.graph.Line.{Line}
 use Rattle.graph_core.proofs.Counting.{weight, sum_by-le_each, sum_by-same}
 use Rattle.graph_core.proofs.FamilyLaws.{sum_by-size_of_partition}
-use Rattle.matroid_union.specs.Sets.{set_of}
-use Rattle.matroid_union.proofs.Sizes.{has_of}
+use Rattle.graph_core.specs.Sets.{set_of}
+use Rattle.graph_core.proofs.SetLaws.{has_of}
 use Rattle.graphic_matroid.specs.Chosen.{chosen}
 use Rattle.graphic_matroid.specs.ChosenLaws.{chosen-none}
 use Rattle.graphic_matroid.specs.Components.{AreComponents}

@@ -1,4 +1,4 @@
-ghost use Rattle.std.specs.Prelude.{◌≡◌, ◌<◌, ◌≤◌, ℕ, Bool, List, [], ◌∷◌, length, replicate, IfOk};
+ghost use Rattle.std.specs.Prelude.{◌≡◌, ◌<◌, ◌≤◌, ℕ, Bool, false, List, [], ◌∷◌, length, replicate, IfOk};
 ghost use Rattle.graph_core.specs.Lines.{degree};
 ghost use Rattle.graph_core.specs.Side.{complement, IsOnly, IsProper};
 ghost use Rattle.graphic_matroid.specs.Components.{AreComponents};
@@ -7,7 +7,7 @@ ghost use Rattle.tree_packing.specs.Start.{IsWithinSingles, IsWithinNodes, IsSta
 
 use crate::packing::bound_of;
 use graph_core::{Graph, Marks, NoMemory, Side, Sides};
-use graphic_matroid::components;
+use graphic_matroid::{components, graph_components};
 use std::alloc::Global;
 
 /// A partition with a small bound to begin with: the components of a graph that isn't connected;
@@ -16,7 +16,7 @@ pub(crate) fn first_partition(alloc: Global, graph: &Graph) -> Result<Sides, NoM
     requires { Suits graph.now }
     ensures { IfOk result (IsStart graph.now) }
 {
-    let whole = all_joined(alloc, graph)?;
+    let whole = graph_components(alloc, graph)?;
     if whole.len() >= 2 {
         return Ok(whole);
     }
@@ -29,29 +29,21 @@ pub(crate) fn first_partition(alloc: Global, graph: &Graph) -> Result<Sides, NoM
     }
 }
 
-/// The components of the graph.
-fn all_joined(alloc: Global, graph: &Graph) -> Result<Sides, NoMemory>
-    ensures { IfOk result (AreComponents (length graph.now.names) graph.now.lines) }
-{
-    let all = marks(alloc, graph.line_count(), true)?;
-    components(alloc, graph, &all)
-}
-
 /// Each node alone.
 fn single_nodes(alloc: Global, graph: &Graph) -> Result<Sides, NoMemory>
     requires { Suits graph.now }
     ensures dual { IfOk result (IsDual graph.now) }
     ensures singles { IfOk result (IsWithinSingles graph.now) }
 {
-    let none = marks(alloc, graph.line_count(), false)?;
+    let none = no_marks(alloc, graph.line_count())?;
     components(alloc, graph, &none)
 }
 
-/// All of so many lines, or none.
-fn marks(alloc: Global, lines: usize, on: bool) -> Result<Marks, NoMemory>
-    ensures { IfOk result (λ marks. marks ≡ replicate lines on) }
+/// None of so many lines.
+fn no_marks(alloc: Global, lines: usize) -> Result<Marks, NoMemory>
+    ensures { IfOk result (λ marks. marks ≡ replicate lines false) }
 {
-    Ok(Marks::from_vec(Vec::from_elem(alloc, on, lines)?))
+    Ok(Marks::from_vec(Vec::from_elem(alloc, false, lines)?))
 }
 
 /// A node of least degree against the rest.

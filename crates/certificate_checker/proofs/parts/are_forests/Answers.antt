@@ -13,19 +13,16 @@ returns-then-not-branch c = (
       let row : c.as_slice.result.now ≡ get_or rows c.loop-row.row-index c.row-item.result = c.as_slice.ensures ∙ c.row-item.is in
       let every : All (IsForest (length c.args.graph.now.names) c.args.graph.now.lines) rows = subst (All (IsForest (length c.args.graph.now.names) c.args.graph.now.lines)) (sym c.as_slice-row-items.ensures) all in
       let forest = subst (IsForest (length c.args.graph.now.names) c.args.graph.now.lines) (sym row) (every c.loop-row.row-index c.row-item.result c.loop-row-test.true) in
-      absurd (false≢true (sym c.if-not-branch.true ∙ c.in_ok-is_forest.ensures.forest.1 forest)),
+      absurd (false≢true (sym c.if-not-branch.true ∙ c.in_ok-is_forest.ensures.1 forest)),
 )
 
 pub loop-row-preserved : goal.loop-row-preserved
-loop-row-preserved c = record {
-  same = c.is_forest.ensures.same;
-  forests =
-      All-more (IsForest (length c.args.graph.now.names) c.args.graph.now.lines) c.as_slice-row-items.result.now c.loop-row.row-index c.row-item.result c.loop-row-test.true c.loop-row.invariant.forests
-      (subst (IsForest (length c.args.graph.now.names) c.args.graph.now.lines) (c.as_slice.ensures ∙ c.row-item.is) (c.in_ok-is_forest.ensures.forest.0 c.if-not-branch.false));
-}
+loop-row-preserved c =
+    All-more (IsForest (length c.args.graph.now.names) c.args.graph.now.lines) c.as_slice-row-items.result.now c.loop-row.row-index c.row-item.result c.loop-row-test.true c.loop-row.invariant
+    (subst (IsForest (length c.args.graph.now.names) c.args.graph.now.lines) (c.as_slice.ensures ∙ c.row-item.is) (c.in_ok-is_forest.ensures.0 c.if-not-branch.false))
 
 pub returns : goal.returns
 returns c = (
-  λ _. subst (All (IsForest (length c.args.graph.now.names) c.args.graph.now.lines)) (take_all c.loop-row.row-index c.as_slice-row-items.result.now c.loop-row-test.false ∙ c.as_slice-row-items.ensures) c.loop-row.invariant.forests,
+  λ _. subst (All (IsForest (length c.args.graph.now.names) c.args.graph.now.lines)) (take_all c.loop-row.row-index c.as_slice-row-items.result.now c.loop-row-test.false ∙ c.as_slice-row-items.ensures) c.loop-row.invariant,
   λ _. refl,
 )

@@ -2,7 +2,7 @@ use Rattle.std.proofs.Common.{◌≡◌, ℕ, ◌<◌, get_or, lit<, arith}
 use Rattle.certificate_text.specs.declared.line.DualKind.{DualKind}
 use Rattle.certificate_text.specs.declared.line.DualKind.TheVariants.{Cut, Components, Subpartition, In, Out, Partition, Induced, Nothing, Dicuts, Dicut}
 use Rattle.certificate_text.specs.declared.keyword.TheConstants.{KINDS}
-use Rattle.certificate_text.specs.Words.{kind_word}
+use Rattle.certificate_text.specs.Words.{dual_word}
 use Rattle.certificate_text.proofs.keyword.kind_of.Goals as goal
 
 -- what holds of each place of the table holds of each kind
@@ -19,4 +19,4 @@ each P all Dicuts = all 8 (lit< tt)
 each P all Dicut = all 9 (lit< tt)
 
 pub returns : goal.returns
-returns c = λ a _ same. each (λ b. kind_word b ≡ c.args.word.now → ⊥) (λ k l. c.loop-kind.invariant k (omega arith)) a same
+returns c = λ a _ same. each (λ b. dual_word b ≡ c.args.word.now → ⊥) (λ k l. c.loop-kind.invariant k (omega arith)) a same

@@ -4,4 +4,4 @@ use Rattle.certificate_text.specs.Words as words_of
 use Rattle.certificate_text.proofs.keyword.kind_of.Given as goal
 
 abbrev pub invariant-loop-kind : goal.invariant-loop-kind
-invariant-loop-kind l = (k : ℕ) → k < l.kind-index → words_of.kind_word (get_or l.kind-items k Cut) ≡ l.word → ⊥
+invariant-loop-kind l = (k : ℕ) → k < l.kind-index → words_of.dual_word (get_or l.kind-items k Cut) ≡ l.word → ⊥

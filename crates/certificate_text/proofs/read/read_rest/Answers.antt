@@ -4,11 +4,11 @@ use Rattle.problem_defs.specs.declared.cert.Body.{Body}
 use Rattle.certificate_text.specs.declared.line.CertLine.{CertLine}
 use Rattle.certificate_text.specs.Words.{spelled}
 use Rattle.certificate_text.specs.Valid.{IsValid}
-use Rattle.certificate_text.specs.Fits.{fits}
-use Rattle.certificate_text.specs.Machine.{step}
+use Rattle.certificate_text.specs.Forms.{has_form}
+use Rattle.certificate_text.specs.Taking.{take_line}
 use Rattle.certificate_text.specs.Places.{view}
 use Rattle.certificate_text.specs.BadLine.{whole_lines}
-use Rattle.certificate_text.specs.Gather.{grown, body_of}
+use Rattle.certificate_text.specs.Gather.{with_line, body_of}
 use Rattle.certificate_text.specs.Front.{IsAtFront}
 use Rattle.certificate_text.specs.Loop.{Reading}
 use Rattle.certificate_text.proofs.ReadLaws.{bad-next, bad-unread, bad-lost, reading-start, reading-next, reading-done}
@@ -40,14 +40,14 @@ returns-then-is_ended-clause-ok c =
     let cut : c.loop-front.rest.now ≡ c.in-Some.front.now ++ 10 ∷ c.in-Some.behind.now = search rules in
     let said : IsValid g x × (spelled g x ≡ c.in-Some.front.now) = rw c.in-Some-found.is at c.in-Ok.ensures in
     let ended : (view c.next_place-one.result ≡ Some []) ⊎ (view c.next_place-two.result ≡ Some []) = c.is_ended.ensures.0 (search rules) in
-    let ended' : (option_and_then (λ left. step (fits g) left x) (view c.loop-front.one) ≡ Some []) ⊎ (option_and_then (λ left. step (fits g) left x) (view c.loop-front.two) ≡ Some []) =
+    let ended' : (option_and_then (λ left. take_line (has_form g) left x) (view c.loop-front.one) ≡ Some []) ⊎ (option_and_then (λ left. take_line (has_form g) left x) (view c.loop-front.two) ≡ Some []) =
     elim ended [ inl d ↦ inl (sym c.next_place-one.ensures ∙ d) | inr d ↦ inr (sym c.next_place-two.ensures ∙ d) ] in
     let long : length c.loop-front.rest.now ≡ length c.in-Some.front.now + length (10 ∷ c.in-Some.behind.now) = ap length cut ∙ length-append c.in-Some.front.now (10 ∷ c.in-Some.behind.now) in
     let few : length c.in-Some.behind.now ≤ length c.args.bytes.now = omega (arith, long, inv.4) in
     let n = length c.args.bytes.now - length c.in-Some.behind.now in
     let counted : n + length c.in-Some.behind.now ≡ length c.args.bytes.now = omega (arith, few) in
     let found = reading-done g c.args.bytes.now c.args.ask inv.0 (view c.args.second) c.loop-front.rest.now c.loop-front.count (view c.loop-front.one) (view c.loop-front.two) c.loop-front.content c.in-Some.front.now c.in-Some.behind.now x c.known.ensures inv.2 inv.3 cut said.0 said.1 ended' n counted in
-    let body : body_of g c.args.ask (grown c.loop-front.content x) ≡ c.in-Ok-make_body.body = ap (body_of g c.args.ask) (sym c.in-Ok-take.ensures) ∙ sym c.in-Ok-make_body.ensures in
+    let body : body_of g c.args.ask (with_line c.loop-front.content x) ≡ c.in-Ok-make_body.body = ap (body_of g c.args.ask) (sym c.in-Ok-take.ensures) ∙ sym c.in-Ok-make_body.ensures in
     subst (λ (b : Body). IsAtFront g c.args.bytes.now (record { ask = c.args.ask; body = b }) n) body found
 
 pub loop-front-preserved : goal.loop-front-preserved
@@ -57,9 +57,9 @@ loop-front-preserved c =
     let x = c.in-Some-found.line in
     let cut : c.loop-front.rest.now ≡ c.in-Some.front.now ++ 10 ∷ c.in-Some.behind.now = search rules in
     let said : IsValid g x × (spelled g x ≡ c.in-Some.front.now) = rw c.in-Some-found.is at c.in-Ok.ensures in
-    let going : (option_and_then (λ left. step (fits g) left x) (view c.loop-front.one) ≡ None) × (option_and_then (λ left. step (fits g) left x) (view c.loop-front.two) ≡ None) → ⊥ =
+    let going : (option_and_then (λ left. take_line (has_form g) left x) (view c.loop-front.one) ≡ None) × (option_and_then (λ left. take_line (has_form g) left x) (view c.loop-front.two) ≡ None) → ⊥ =
     λ none. let t = c.are_lost.ensures.1 (c.next_place-one.ensures ∙ none.0, c.next_place-two.ensures ∙ none.1) in search rules in
-    let undone : (option_and_then (λ left. step (fits g) left x) (view c.loop-front.one) ≡ Some []) ⊎ (option_and_then (λ left. step (fits g) left x) (view c.loop-front.two) ≡ Some []) → ⊥ =
+    let undone : (option_and_then (λ left. take_line (has_form g) left x) (view c.loop-front.one) ≡ Some []) ⊎ (option_and_then (λ left. take_line (has_form g) left x) (view c.loop-front.two) ≡ Some []) → ⊥ =
     λ done.
     let ended : (view c.next_place-one.result ≡ Some []) ⊎ (view c.next_place-two.result ≡ Some []) = elim done [ inl d ↦ inl (c.next_place-one.ensures ∙ d) | inr d ↦ inr (c.next_place-two.ensures ∙ d) ] in
     let t = c.is_ended.ensures.1 ended in search rules in

@@ -1,6 +1,6 @@
 use Rattle.std.proofs.Common.{[]}
 use Rattle.std.proofs.lemmas.Option.{slice_get-get_or}
-use Rattle.certificate_text.specs.Machine.{slots_by}
+use Rattle.certificate_text.specs.Taking.{slots_by}
 use Rattle.certificate_text.proofs.WriteLaws.{item-more, items-all}
 use Rattle.certificate_text.proofs.tables.slots.Goals as goal
 

@@ -2,7 +2,8 @@ use Rattle.std.proofs.Common.{◌≡◌, ◌<◌, ◌+◌, length, sym, ap, ◌�
 use Rattle.std.specs.Prelude.{slice_index}
 use Rattle.std.proofs.lemmas.List.Elements.{All-from_get_or}
 use Rattle.cut_trees.specs.Branch.{at, no_branch}
-use Rattle.cut_trees.specs.Grown.{IsLeastSide, IsGrown}
+use Rattle.flow_cuts.specs.NodeCuts.{IsLeastNodeCut}
+use Rattle.cut_trees.specs.Grown.{IsGrown}
 use Rattle.cut_trees.specs.Turn.{IsTurn}
 use Rattle.cut_trees.proofs.NextNode.{grown_next}
 use Rattle.cut_trees.proofs.Turned.{turn_begun}
@@ -35,7 +36,7 @@ returns-clause-grown c =
     let ls = c.args.cuts.now.graph.now.lines in
     let w = c.least_cut-weight.result in
     let fit = rw c.requires.nodes at c.known.ensures.makes.ends in
-    let cut : IsLeastSide n ls c.args.s c.args.t w c.least_cut-weight.new.into = rw c.requires.nodes at c.least_cut-weight.ensures.cut in
+    let cut : IsLeastNodeCut n ls c.args.s c.args.t w c.least_cut-weight.new.into = rw c.requires.nodes at c.least_cut-weight.ensures.cut in
     let turn = turn_begun fit c.requires.grown c.requires.next c.requires.rep (at c.turn_branches.new.branches) c.turn_branches.ensures in
     let long : length c.turn_branches.new.branches ≡ length c.args.branches.now = omega arith in
     let start = subst (λ m. IsTurn n c.args.s c.args.t ls m (at c.turn_branches.new.branches) (slice_index c.args.reps.now)) (sym long) turn in

@@ -2,7 +2,7 @@ use Rattle.std.proofs.Common.{◌≡◌, length, count_by, sym, ap, ◌∙◌, s
 use Rattle.std.specs.Prelude.{slice_index}
 use Rattle.std.proofs.lemmas.Result.{IfOk-weaker}
 use Rattle.graphic_matroid.specs.Chosen.{chosen}
-use Rattle.graphic_matroid.specs.Labels.{unfit}
+use Rattle.graphic_matroid.specs.Unfit.{unfit}
 use Rattle.graphic_matroid.specs.Roots.{AreClasses}
 use Rattle.graphic_matroid.specs.Components.{AreComponents, classes_of}
 use Rattle.graphic_matroid.specs.ChosenLaws.{chosen-all}

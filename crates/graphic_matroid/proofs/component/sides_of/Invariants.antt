@@ -1,7 +1,7 @@
 use Rattle.std.proofs.Common.{◌≡◌, ◌==◌, length, map}
 use Rattle.std.specs.Prelude.{slice_index}
 use Rattle.std.specs.List.{filter, range_with_len}
-use Rattle.graphic_matroid.specs.Labels.{class}
+use Rattle.graph_core.specs.Labels.{class}
 use Rattle.graphic_matroid.proofs.component.sides_of.Given as goal
 
 abbrev pub invariant-loop-v : goal.invariant-loop-v

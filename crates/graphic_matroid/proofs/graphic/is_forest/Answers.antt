@@ -5,7 +5,8 @@ use Rattle.graph_core.specs.Trees.{IsAcyclic}
 use Rattle.graph_core.specs.declared.graph.Line.{Line}
 use Rattle.graphic_matroid.specs.Chosen.{chosen}
 use Rattle.graphic_matroid.specs.Roots.{AreRoots, AreClasses}
-use Rattle.graphic_matroid.specs.ForestLaws.{forest_none, forest_front, take_with}
+use Rattle.graphic_matroid.specs.ForestLaws.{forest_front, take_with}
+use Rattle.graph_core.proofs.LabelLaws.{forest_none}
 use Rattle.graphic_matroid.proofs.RootLaws.{classes_none, roots_none}
 use Rattle.graphic_matroid.proofs.Steps.{classes_without, forest_without}
 use Rattle.graphic_matroid.proofs.graphic.is_forest.Goals as goal

@@ -1,5 +1,5 @@
 use Rattle.std.proofs.Common.{◌≡◌, ◌≤◌, length, count_by, sym, ◌∙◌, subst, arith}
-use Rattle.graphic_matroid.specs.Labels.{unfit}
+use Rattle.graphic_matroid.specs.Unfit.{unfit}
 use Rattle.graphic_matroid.proofs.RootLaws.{count_by-unfit}
 use Rattle.graphic_matroid.proofs.graphic.Graphic.new.Goals as goal
 

@@ -2,7 +2,7 @@ use Rattle.std.proofs.Common.{◌≡◌, false, true, set, sym, ◌∙◌, subst
 use Rattle.std.proofs.lemmas.List.{get_or_read}
 use Rattle.graph_core.specs.Side.{has}
 use Rattle.graphic_matroid.specs.Chosen.{chosen}
-use Rattle.graphic_matroid.specs.Labels.{Adds}
+use Rattle.graph_core.specs.Labels.{Adds}
 use Rattle.graphic_matroid.specs.Roots.{AreRoots, AreClasses}
 use Rattle.graphic_matroid.proofs.GrowingLaws.{rank_most, chosen_adds, forest_grown}
 use Rattle.graphic_matroid.proofs.graphic.GraphicMatroid.add.Goals as goal

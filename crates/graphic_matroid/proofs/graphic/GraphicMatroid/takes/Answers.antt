@@ -3,7 +3,7 @@ use Rattle.std.proofs.lemmas.List.{get_or_read}
 use Rattle.graph_core.specs.Side.{has}
 use Rattle.graph_core.specs.Trees.{IsAcyclic}
 use Rattle.graphic_matroid.specs.Chosen.{chosen}
-use Rattle.graphic_matroid.specs.Labels.{Adds}
+use Rattle.graph_core.specs.Labels.{Adds}
 use Rattle.graphic_matroid.specs.Roots.{AreClasses}
 use Rattle.graphic_matroid.proofs.GrowingLaws.{chosen_adds}
 use Rattle.graphic_matroid.proofs.graphic.GraphicMatroid.takes.Goals as goal

@@ -1,0 +1,3 @@
+mod EvenLaws
+mod RowLaws
+mod StarLaws

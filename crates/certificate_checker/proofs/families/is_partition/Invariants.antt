@@ -1,0 +1,6 @@
+use Rattle.std.proofs.Common.{◌≡◌, ◌<◌, ℕ}
+use Rattle.graph_core.specs.Families.{members_with}
+use Rattle.certificate_checker.proofs.families.is_partition.Given as goal
+
+abbrev pub invariant-loop-node : goal.invariant-loop-node
+invariant-loop-node l = (v : ℕ) → v < l.node → members_with v l.classes ≡ 1

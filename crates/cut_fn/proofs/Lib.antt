@@ -1,0 +1,4 @@
+pub mod Families
+pub mod Opposite
+pub mod StarSums
+pub mod Uncrossing

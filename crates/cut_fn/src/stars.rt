@@ -1,0 +1,191 @@
+ghost use Rattle.std.specs.Prelude.{◌≡◌, ◌+◌, ◌<◌, ◌≤◌, length, sum, slice_index};
+ghost use Rattle.graph_core.specs.Lines.{degree, entering, leaving};
+ghost use Rattle.graph_core.specs.Side.{sum_over};
+ghost use Rattle.cut_fn.specs.StarLaws.{star_meets, star_parts, star_three, star_enters, star_leaves};
+
+use crate::function::{CutFn, Symmetric};
+use graph_core::{Counts, Graph, Side};
+use std::marker::Model;
+
+/// A graph with a new node, joined to node v by `count[v]` edges.
+#[derive(Debug, Drop)]
+pub struct Star {
+    pub graph: Graph,
+    pub count: Counts,
+    ghost long: { length count ≡ length graph.names },
+    ghost few: { sum count ≤ 65536 },
+}
+
+/// A digraph with a new node, with `into[v]` arcs to node v and `out[v]` arcs from it.
+#[derive(Debug, Drop)]
+pub struct ArcStar {
+    pub graph: Graph,
+    pub into: Counts,
+    pub out: Counts,
+    ghost into_long: { length into ≡ length graph.names },
+    ghost into_few: { sum into ≤ 65536 },
+    ghost out_long: { length out ≡ length graph.names },
+    ghost out_few: { sum out ≤ 65536 },
+}
+
+/// The sum of all counts.
+pub fn total_count(counts: &[u64]) -> u64
+    requires { sum counts.now ≤ 131072 }
+    ensures total { result ≡ sum counts.now }
+    ensures within { result ≤ 131072 }
+{
+    let mut total: u64 = 0;
+    for count in counts {
+        total += *count;
+    }
+    total
+}
+
+/// The sum of the counts over the nodes of a side.
+pub fn sum_counts(side: &Side, counts: &[u64]) -> u64
+    requires long { length side.now ≡ length counts.now }
+    requires nodes { length counts.now ≤ 8192 }
+    requires few { sum counts.now ≤ 131072 }
+    ensures total { result ≡ sum_over side.now (slice_index counts.now) }
+    ensures within { result ≤ 131072 }
+{
+    let mut total: u64 = 0;
+    for (v, count) in counts.iter().enumerate() {
+        if side.has(v as u32) {
+            total += *count;
+        }
+    }
+    total
+}
+
+/// The edges of a star with exactly one end in a side of the graph's nodes.
+#[derive(Debug, Drop)]
+pub struct StarCut<'a> {
+    star: &'a Star,
+}
+
+impl<'a> Model for StarCut<'a> {
+    ghost use Rattle.cut_fn.specs.declared.stars.Star.{Star as StarOf};
+
+    ghost Value = { StarOf };
+
+    ghost view = { λ f. f.star.now };
+}
+
+impl<'a> StarCut<'a> {
+    pub fn new(star: &'a Star) -> StarCut<'a>
+        ensures { result ≡ star.now }
+    {
+        StarCut { star }
+    }
+}
+
+impl CutFn for StarCut<'_> {
+    ghost nodes = { λ f. length f.graph.names };
+
+    ghost cut = { λ f X. degree X f.graph.lines + sum_over X (slice_index f.count) };
+
+    fn size(&self) -> usize {
+        self.star.graph.known();
+        self.star.graph.node_count()
+    }
+
+    fn value(&self, side: &Side) -> u64 {
+        self.star.graph.known();
+        self.star.graph.degree(side) + sum_counts(side, self.star.count.as_slice())
+    }
+
+    ghost submodular = { λ f. star_meets (length f.graph.names) (slice_index f.count) f.graph.lines };
+}
+
+impl Symmetric for StarCut<'_> {
+    ghost weight_of = { λ f. slice_index f.count };
+
+    fn weight(&self, v: u32) -> u64 {
+        *self.star.count.item(v as usize)
+    }
+
+    ghost differences = { λ f. star_parts (length f.graph.names) (slice_index f.count) f.graph.lines };
+
+    ghost three_sides = { λ f. star_three (length f.graph.names) (slice_index f.count) f.graph.lines };
+}
+
+/// The arcs of a star that enter a side of the graph's nodes.
+#[derive(Debug, Drop)]
+pub struct StarEnter<'a> {
+    star: &'a ArcStar,
+}
+
+impl<'a> Model for StarEnter<'a> {
+    ghost use Rattle.cut_fn.specs.declared.stars.ArcStar.{ArcStar as ArcStarOf};
+
+    ghost Value = { ArcStarOf };
+
+    ghost view = { λ f. f.star.now };
+}
+
+impl<'a> StarEnter<'a> {
+    pub fn new(star: &'a ArcStar) -> StarEnter<'a>
+        ensures { result ≡ star.now }
+    {
+        StarEnter { star }
+    }
+}
+
+impl CutFn for StarEnter<'_> {
+    ghost nodes = { λ f. length f.graph.names };
+
+    ghost cut = { λ f X. entering X f.graph.lines + sum_over X (slice_index f.into) };
+
+    fn size(&self) -> usize {
+        self.star.graph.known();
+        self.star.graph.node_count()
+    }
+
+    fn value(&self, side: &Side) -> u64 {
+        self.star.graph.known();
+        self.star.graph.entering(side) + sum_counts(side, self.star.into.as_slice())
+    }
+
+    ghost submodular = { λ f. star_enters (length f.graph.names) (slice_index f.into) f.graph.lines };
+}
+
+/// The arcs of a star that leave a side of the graph's nodes.
+#[derive(Debug, Drop)]
+pub struct StarLeave<'a> {
+    star: &'a ArcStar,
+}
+
+impl<'a> Model for StarLeave<'a> {
+    ghost use Rattle.cut_fn.specs.declared.stars.ArcStar.{ArcStar as ArcStarOf};
+
+    ghost Value = { ArcStarOf };
+
+    ghost view = { λ f. f.star.now };
+}
+
+impl<'a> StarLeave<'a> {
+    pub fn new(star: &'a ArcStar) -> StarLeave<'a>
+        ensures { result ≡ star.now }
+    {
+        StarLeave { star }
+    }
+}
+
+impl CutFn for StarLeave<'_> {
+    ghost nodes = { λ f. length f.graph.names };
+
+    ghost cut = { λ f X. leaving X f.graph.lines + sum_over X (slice_index f.out) };
+
+    fn size(&self) -> usize {
+        self.star.graph.known();
+        self.star.graph.node_count()
+    }
+
+    fn value(&self, side: &Side) -> u64 {
+        self.star.graph.known();
+        self.star.graph.leaving(side) + sum_counts(side, self.star.out.as_slice())
+    }
+
+    ghost submodular = { λ f. star_leaves (length f.graph.names) (slice_index f.out) f.graph.lines };
+}

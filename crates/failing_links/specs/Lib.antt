@@ -1,0 +1,2 @@
+-- What the number of failures is.
+pub mod Failures

@@ -1,0 +1,39 @@
+-- What the flows between node 0 and the other nodes say of proper sides.
+use Rattle.std.specs.Prelude.{ℕ, ◌≡◌, ◌≢◌, ◌<◌, ◌≤◌, Bool, true, false, List}
+use Rattle.std.proofs.Common.{sym, ap, ◌∙◌, arith, inl, inr}
+use Rattle.std.proofs.lemmas.Bool.{false≢true, cases_Bool}
+use Rattle.std.proofs.lemmas.List.{get_or_default}
+use Rattle.graph_core.specs.Side.{has, IsOnly}
+use Rattle.graph_core.proofs.ProperLaws.{is_proper}
+use Rattle.flow_cuts.specs.Cuts.{IsLeastCapacity, IsSmallestCut}
+use Rattle.flow_cuts.specs.Sparse.{AreJoined, IsConnected, IsSparse}
+use Rattle.flow_cuts.specs.declared.network.Cap.{Cap}
+
+module _ {n u v : ℕ} {I O : List Bool} (arcs : List Cap) (inside : IsOnly I u) (outside : IsOnly O v) where
+  pub joined-by : (least answer : ℕ) → IsLeastCapacity n I O arcs least answer → least ≤ answer → AreJoined n arcs u v least
+  joined-by least answer ran enough X long holds misses =
+      let most = ran.least X (record { long = long; holds = λ w h. ap (has X) (inside.only w h) ∙ holds; misses = λ w h. ap (has X) (outside.only w h) ∙ misses }) in
+      omega arith
+
+  pub sparse-by : (least answer : ℕ) (X : List Bool) → v < n → IsSmallestCut n I O arcs answer X → answer < least → IsSparse n arcs least X
+  sparse-by least answer X below smallest few =
+      let apart = smallest.cut.separates in
+      record {
+        proper = is_proper X u v apart.long (apart.holds u inside.here) below (apart.misses v outside.here);
+        few = omega (arith, smallest.cut.value_is);
+      }
+
+-- where node 0 is joined to each other one both ways, so is each proper side to the rest
+pub connected-from : (n least : ℕ) (arcs : List Cap) → ((w : ℕ) → 1 ≤ w → w < n → AreJoined n arcs 0 w least × AreJoined n arcs w 0 least) → IsConnected n arcs least
+connected-from n least arcs each X p = elim (cases_Bool (has X 0)) [
+  | inl here ↦
+      let (w, lw, out) = p.some_out in
+      (each w (positive w (λ e. false≢true (sym out ∙ ap (has X) e ∙ here))) (omega (arith, p.long))).0 X p.long here out
+  | inr here ↦
+      let (w, lw, in') = p.some_in in
+      let within : has X w ≡ true = get_or_default X w false true lw ∙ in' in
+      (each w (positive w (λ e. false≢true (sym here ∙ ap (has X) (sym e) ∙ within))) (omega (arith, p.long))).1 X p.long within here
+]
+  where
+    positive : (w : ℕ) → w ≢ 0 → 1 ≤ w
+    positive w ne = omega arith

@@ -1,0 +1,11 @@
+pub mod BackLaws
+pub mod ChosenLaws
+pub mod Claims
+pub mod JoinedLaws
+pub mod MovedLaws
+pub mod PruneLaws
+pub mod SplitLaws
+pub mod StarLaws
+pub mod TightNode
+pub mod Weaving
+pub mod Whole

@@ -1,0 +1,8 @@
+pub mod Halves
+pub mod LeastValues
+pub mod Mader
+pub mod Rows
+pub mod Splits
+pub mod Stars
+pub mod Turns
+pub mod WrittenPairs

@@ -1,0 +1,16 @@
+-- Serves the proofs: one of a star's two functions, as arcs with capacities and counts of the nodes.
+use Rattle.std.specs.Prelude.{ℕ, ◌≡◌, ◌<◌, ◌≤◌, Bool, List, length, slice_index, sum, All}
+use Rattle.flow_cuts.specs.NewNode.{value_with}
+use Rattle.split_directed.specs.declared.half.Half.{Half}
+
+-- the capacity that leaves X, and the counts of its nodes
+abbrev pub value : Half → List Bool → ℕ
+value h X = value_with h.arcs.items (slice_index h.counts.items) X
+
+-- arcs and counts of n nodes, few enough for a flow
+pub record IsHalf (n : ℕ) (h : Half) : Type 0 where
+  pub nodes : n ≤ 4096
+  pub long : length h.counts.items ≡ n
+  pub ends : All (λ a. (a.tail < n) × (a.head < n)) h.arcs.items
+  pub few : length h.arcs.items ≤ 65536
+  pub small : sum h.counts.items ≤ 65536

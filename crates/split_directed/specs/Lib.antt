@@ -1,0 +1,9 @@
+pub mod Allowed
+pub mod Half
+pub mod Least
+pub mod Pairs
+pub mod Rows
+pub mod StarValue
+pub mod State
+pub mod Turn
+pub mod Ways

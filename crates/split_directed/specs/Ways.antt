@@ -1,0 +1,40 @@
+-- Serves the proofs: the two functions of a star, and what each is made of.
+use Rattle.std.specs.Prelude.{ℕ, ◌+◌, ◌==◌, ◌&&◌, Bool, true, false, List, [], ◌∷◌, cond, slice_index}
+use Rattle.graph_core.specs.Side.{has, join, sum_over}
+use Rattle.flow_cuts.specs.declared.network.Cap.{Cap}
+use Rattle.problem_defs.specs.Ways.{count_for}
+use Rattle.problem_defs.specs.declared.cert.Way.{Way}
+use Rattle.problem_defs.specs.declared.cert.Way.TheVariants.{Entering, Leaving}
+use Rattle.split_directed.specs.StarValue.{StarValue}
+
+abbrev pub counts_for : Way → StarValue → List ℕ
+counts_for Entering s = s.into
+counts_for Leaving s = s.out
+
+-- the arcs that enter X, or that leave it, with those of the new node
+abbrev pub value_for : Way → StarValue → List Bool → ℕ
+value_for w s X = count_for w s.lines X + sum_over X (slice_index (counts_for w s))
+
+abbrev pub same : Way → Way → Bool
+same Entering Entering = true
+same Entering Leaving = false
+same Leaving Entering = false
+same Leaving Leaving = true
+
+-- of u and t the node whose count falls where they are split off
+abbrev pub end_of : Way → ℕ → ℕ → ℕ
+end_of Entering u t = t
+end_of Leaving u t = u
+
+-- an arc from u to t, turned round where the arcs that enter a side are to leave it
+abbrev pub arc_of : Way → ℕ → ℕ → ℕ → Cap
+arc_of Entering u t c = record { tail = t; head = u; cap = c }
+arc_of Leaving u t c = record { tail = u; head = t; cap = c }
+
+-- none where u and t are one node
+abbrev pub arcs_between : Way → ℕ → ℕ → ℕ → List Cap
+arcs_between w u t c = cond (u == t) [] (arc_of w u t c ∷ [])
+
+-- a tight side M with t that takes in another X: their union where both are of one way, and else X alone
+abbrev pub taken_in : Way → List Bool → Way → List Bool → ℕ → List Bool
+taken_in w M w' X t = cond (same w w' && has M t) (join M X) X

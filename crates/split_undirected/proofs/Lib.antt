@@ -1,0 +1,12 @@
+pub mod Candidates
+pub mod Lovasz
+pub mod MostLaws
+pub mod NextNet
+pub mod PairLaws
+pub mod RowLaws
+pub mod SearchLaws
+pub mod SplitLaws
+pub mod StarLaws
+pub mod Turns
+pub mod Underway
+pub mod WitnessLaws

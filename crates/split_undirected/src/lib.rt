@@ -1,0 +1,13 @@
+//! Splitting off pairs of edges in a star of a graph (Lovász).
+#![tactic(auto)]
+
+mod largest;
+mod least;
+mod many;
+mod rest;
+mod single;
+mod witness;
+
+pub use largest::most;
+pub use many::split_many;
+pub use single::{partner, split_all};

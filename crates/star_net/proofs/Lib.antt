@@ -1,0 +1,5 @@
+pub mod ArcStars
+pub mod CrossPair
+pub mod LeastProper
+pub mod Lowering
+pub mod TightFamilies

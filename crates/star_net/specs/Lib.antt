@@ -1,0 +1,5 @@
+pub mod LeastProper
+pub mod Lowered
+pub mod TightArcStar
+pub mod TightFamily
+pub mod TightStar
