@@ -3,13 +3,13 @@
 
 usage: bench.py [PROGRAM [RUNS [COMMAND..]]]
 
-`large` among the commands stands for the table of single graphs, most of them as large as may be, for augmentations and
-orientations. Without a command all tables are printed.
+`large` among the commands stands for the table of single graphs, most of them as large as may be, for augmentations,
+orientations and dijoins. Without a command all tables are printed.
 
 Each time is the least of RUNS (5), in milliseconds of a processor, from the start of the process to its end: of the
 answer, of `check` on that answer, and of the yardstick, tools/yardstick.cpp, which is built where a C++ compiler is and
-whose values are compared with the program's. Growth is how often the time of an answer goes into that of the next size.
-Ends with 1 where a run has another answer than it has to have.
+whose values are compared with the program's, those of dijoins excepted. Growth is how often the time of an
+answer goes into that of the next size. Ends with 1 where a run has another answer than it has to have.
 """
 
 import random
@@ -33,6 +33,7 @@ COMMANDS = [
     ("augment", lambda n: ["8"], (False,)),
     ("augment-arcs", lambda n: ["4"], (True,)),
     ("orient", lambda n: ["1"], (False,)),
+    ("dijoin", lambda n: [], (True,)),
 ]
 
 
@@ -52,15 +53,32 @@ def loose(n, m):
     return [tuple(rng.sample(range(1, n + 1), 2)) for _ in range(m)]
 
 
+def priced(pairs, most, least=0):
+    """The pairs with random costs, which add up to 4,000 at most."""
+    rng = random.Random(len(pairs) * most)
+    costs = [rng.randint(least, most) for _ in pairs]
+    while sum(costs) > 4_000:
+        costs[costs.index(max(costs))] -= 1
+    return [(*pair, cost) for pair, cost in zip(pairs, costs)]
+
+
 def upward(pairs):
     """Each pair from its smaller number to its larger one, so that there is no circuit of arcs."""
     return [tuple(sorted(pair)) for pair in pairs]
 
 
-def tree_and_more(n):
-    """A tree and 3n random lines, each from its smaller number to its larger one."""
+def tree_and_more(n, more=None):
+    """A tree and more random lines (3n), each from its smaller number to its larger one."""
     rng = random.Random(n)
-    return [(rng.randrange(1, v), v) for v in range(2, n + 1)] + upward(rng.sample(range(1, n + 1), 2) for _ in range(3 * n))
+    more = 3 * n if more is None else more
+    return [(rng.randrange(1, v), v) for v in range(2, n + 1)] + upward(rng.sample(range(1, n + 1), 2) for _ in range(more))
+
+
+def layers(n, m, count):
+    """Arcs from each of so many layers to the next."""
+    rng, size = random.Random(n * m * count), n // count
+    starts = [rng.randrange(n - size) for _ in range(m)]
+    return [(v + 1, (v // size + 1) * size + rng.randrange(size) + 1) for v in starts]
 
 
 def grid(n):
@@ -97,13 +115,26 @@ LARGE = [
     ("orient 1", 128, "ring and 1,920 random edges", some(128, 2048), False),
     ("orient 8", 128, "ring and 1,920 random edges", some(128, 2048), False),
     ("orient 16", 64, "ring and 1,984 random edges", some(64, 2048), False),
+    ("dijoin", 40, "tree and 120 random arcs, no circuit", tree_and_more(40), True),
+    ("dijoin", 128, "tree and 129 random arcs, no circuit", tree_and_more(128, 129), True),
+    ("dijoin", 128, "tree and 385 random arcs, no circuit", tree_and_more(128, 385), True),
+    ("dijoin", 128, "tree and 1,921 random arcs, no circuit", tree_and_more(128, 1921), True),
+    ("dijoin", 128, "the first with costs to 31", priced(tree_and_more(128, 129), 31), True),
+    ("dijoin", 128, "the second with costs to 15", priced(tree_and_more(128, 385), 15), True),
+    ("dijoin", 128, "the third with costs to 3", priced(tree_and_more(128, 1921), 3), True),
+    ("dijoin", 128, "tree with costs to 62", priced(tree_and_more(128, 0), 62), True),
+    ("dijoin", 41, "tree, each arc of cost 100", priced(tree_and_more(41, 0), 100, 100), True),
+    ("dijoin", 128, "tree", tree_and_more(128, 0), True),
+    ("dijoin", 128, "four layers, 1,024 arcs", layers(128, 1024, 4), True),
+    ("dijoin", 128, "sources and sinks, 2,048 arcs", layers(128, 2048, 2), True),
 ]
 
 
 def text_of(n, pairs, directed):
     word = "arc" if directed else "edge"
     lines = [f"graph {'directed' if directed else 'undirected'}", *(f"node n{v}" for v in range(1, n + 1))]
-    return "\n".join([*lines, *(f"{word} n{u} n{v}" for u, v in pairs), "end\n"]).encode()
+    ends = [f"{word} n{u} n{v}" + "".join(f" cost {c}" for c in cost) for u, v, *cost in pairs]
+    return "\n".join([*lines, *ends, "end\n"]).encode()
 
 
 # ---- times
@@ -138,18 +169,14 @@ def yardstick(room):
 
 
 def value_of(command, text):
-    """The certificate's value; of a cut tree the sum of the weights, and of an orientation whether there is one."""
+    """The certificate's value; of a cut tree the sum of the weights, and whether there is an orientation; 0 where there is no
+    dijoin."""
     lines = [line.split() for line in text.decode().split("\n")]
-    if command == "orient":
+    if command == "orient" or ["impossible"] in lines:
         return int(["impossible"] not in lines)
     if command == "cuttree":
         return sum(int(words[3]) for words in lines if words[:1] == ["tree"])
     return next(int(words[1]) for words in lines if words[:1] == ["value"])
-
-
-def is_built(program, words, data):
-    text, status, _ = timed([program, *words], data, 1)
-    return (text, status) != (b"words 1\n", 3)
 
 
 def want(words, got, wanted):
@@ -158,18 +185,16 @@ def want(words, got, wanted):
 
 
 def times(program, plain, runs, words, data):
-    """The value, and the times of the answer, its check and the yardstick; a command that isn't checked has none of a check."""
+    """The value, and the times of the answer, its check and the yardstick, which knows no dijoins."""
     text, status, own = timed([program, *words], data, runs)
     want(words, status, 1 if b"\nimpossible\n" in text else 0)
     said, accepted, check = timed([program, "check"], data + text, runs)
-    is_checked = said != b"rejected malformed 2\n"
-    if is_checked:
-        want([*words, "and check"], (said, accepted), (b"accepted\n", 0))
+    want([*words, "and check"], (said, accepted), (b"accepted\n", 0))
     found, least = value_of(words[0], text), None
-    if plain:
+    if plain and words[0] != "dijoin":
         value, _, least = timed([plain, *words], data, runs)
         want([*words, "and the yardstick's value"], found, int(value))
-    return found, (own, check if is_checked else None, least)
+    return found, (own, check, least)
 
 
 def shown(found):
@@ -215,9 +240,6 @@ def main(words):
             if words[2:] and command not in words[2:]:
                 continue
             for directed in kinds:
-                if not is_built(program, [command, *words_for(2)], text_of(2, [(1, 2)], directed)):
-                    print(f"`{command}` isn't built yet.\n")
-                    continue
                 print(f"## `{command}`, {'directed' if directed else 'undirected'} graphs\n")
                 print("| Graph |", " | ".join(f"n = {n}" for n in SIZES), "| Growth |\n|---|" + "---|" * len(SIZES) + "---|")
                 for form, make in FORMS:

@@ -4,7 +4,9 @@ import re
 
 NAME = re.compile(rb"[A-Za-z0-9_.\-]{1,32}\Z")
 DECIMAL = re.compile(rb"(0|[1-9][0-9]*)\Z")
-MOST_BYTES, MOST_NODES, MOST_LINES = 1_048_576, 128, 2_048
+MOST_BYTES, MOST_NODES, MOST_LINES = 33_554_432, 128, 2_048
+# Of one node and of all, and of one arc and of all.
+MOST_NUMBER, MOST_NUMBERS, MOST_COST, MOST_COSTS = 8_192, 65_536, 100, 4_000
 COMMANDS = {"flow": 2, "cuttree": 0, "augment": 1, "augment-arcs": 1, "arborescences": 1,
             "trees": 0, "forests": 0, "orient": 1, "dijoin": 0, "check": 0, "trial": 3}
 KINDS = ["flow", "augment", "augment-arcs", "arborescences", "trees", "forests", "orient", "dijoin"]
@@ -19,8 +21,10 @@ class Fault(Exception):
 
 
 class Graph:
+    """A line is its tail, its head, whether it is fixed, and its cost."""
+
     def __init__(self, directed):
-        self.directed, self.names, self.lines = directed, [], []
+        self.directed, self.names, self.numbers, self.lines = directed, [], [], []
 
     def number(self, name):
         return self.names.index(name) if name in self.names else None
@@ -40,9 +44,16 @@ def words_of(line):
 def fits(words):
     """Whether the words fit a row of the table of items."""
     first, count = words[0], len(words)
-    return (first == b"node" and count == 2 or first == b"edge" and count == 3
-            or first == b"arc" and (count == 3 or count == 4 and words[3] == b"fixed")
+    return (first == b"node" and count in (2, 3) or first == b"edge" and count == 3
+            or first == b"arc" and (count == 3 or count == 4 and words[3] == b"fixed" or count == 5 and words[3] == b"cost")
             or first == b"end" and count == 1)
+
+
+def worth(words):
+    """The word for a node's number or a line's cost, and the most that it may be."""
+    if words[0] == b"node":
+        return words[2] if len(words) == 3 else b"0", MOST_NUMBER
+    return words[4] if len(words) == 5 else b"1", MOST_COST
 
 
 def cause(graph, words):
@@ -58,11 +69,20 @@ def cause(graph, words):
     names = words[1:2] if item == b"node" else words[1:3]
     if not all(NAME.match(name) for name in names):
         return "name"
+    word, most = worth(words)
+    if not DECIMAL.match(word) or len(word) > 4 or int(word) > most:
+        return "number"
     if item == b"node":
-        return "twice" if names[0] in graph.names else "nodes" if len(graph.names) >= MOST_NODES else None
+        if names[0] in graph.names:
+            return "twice"
+        return "nodes" if len(graph.names) >= MOST_NODES else "numbers" if sum(graph.numbers) + int(word) > MOST_NUMBERS else None
     if not all(name in graph.names for name in names):
         return "unknown"
-    return "loop" if names[0] == names[1] else "lines" if len(graph.lines) >= MOST_LINES else None
+    if names[0] == names[1]:
+        return "loop"
+    if len(graph.lines) >= MOST_LINES:
+        return "lines"
+    return "costs" if graph.directed and sum(cost for *_, cost in graph.lines) + int(word) > MOST_COSTS else None
 
 
 def read_graph(data):
@@ -80,10 +100,11 @@ def read_graph(data):
             graph = Graph(words[1] == b"directed")
         elif words[0] == b"node":
             graph.names.append(words[1])
+            graph.numbers.append(int(worth(words)[0]))
         elif words[0] == b"end":
             return graph, taken, number
         else:
-            graph.lines.append((graph.number(words[1]), graph.number(words[2]), len(words) == 4))
+            graph.lines.append((graph.number(words[1]), graph.number(words[2]), len(words) == 4, int(worth(words)[0])))
     raise Fault(len(lines) + 1, "header" if graph is None else "noend")
 
 
@@ -130,6 +151,45 @@ def unfit(graph, words):
     if words[0] == "flow" and nodes[0] == nodes[1]:
         return "same"
     return "small" if words[0] in ("arborescences", "trees") and len(graph.names) == 1 else None
+
+
+# ---- generated graphs
+
+def draws(state):
+    """A function that draws below a bound, from a number on."""
+    def draw(bound):
+        nonlocal state
+        state = (state * 6364136223846793005 + 1442695040888963407) % 2 ** 64
+        return (state >> 33) % bound
+    return draw
+
+
+def generated(directed, nodes, number):
+    """The graph that `trial` makes: a tree, and three further lines a node."""
+    graph, draw = Graph(directed), draws(number)
+    graph.names = [b"n%d" % (v + 1) for v in range(nodes)]
+    graph.numbers = [0 for _ in graph.names]
+    graph.lines = [(draw(i), i, False, 1) for i in range(1, nodes)]
+    for _ in range(3 * nodes):
+        a, b = draw(nodes), draw(nodes - 1)
+        b += b >= a
+        graph.lines.append((min(a, b), max(a, b), False, 1))
+    return graph
+
+
+def trial(kind, nodes, number):
+    """The graph of a trial, and the command's words that it solves there."""
+    after = {"flow": ["n1", f"n{nodes}"], "augment": ["8"], "augment-arcs": ["4"], "arborescences": ["n1"], "orient": ["1"]}
+    directed = kind in ("augment-arcs", "arborescences", "dijoin")
+    return generated(directed, nodes, number), [kind, *after.get(kind, [])]
+
+
+def plain_text(graph):
+    """The text of a graph without costs and numbers."""
+    word = b"arc" if graph.directed else b"edge"
+    lines = [b"graph directed" if graph.directed else b"graph undirected", *(b"node " + name for name in graph.names)]
+    lines += [b"%s %s %s" % (word, graph.names[t], graph.names[h]) + (b" fixed" if fixed else b"") for t, h, fixed, _ in graph.lines]
+    return b"".join(line + b"\n" for line in [*lines, b"end"])
 
 
 # ---- counts, over sides as sets of node numbers
@@ -197,7 +257,7 @@ def is_walk(graph, s, t, numbers):
     """Whether the lines with these numbers, from 0, are a walk from s to t."""
     at = s
     for j in numbers:
-        tail, head, _ = graph.lines[j]
+        tail, head, *_ = graph.lines[j]
         if tail == at:
             at = head
         elif head == at and not graph.directed:
@@ -310,6 +370,42 @@ def least_arcs(n, lines, k):
 def has_orientation(n, lines, k):
     """Whether some orientation is k-arc-connected: each proper side has 2k edges."""
     return all(degree(lines, side) >= 2 * k for side in sides(list(range(n))) if len(side) < n)
+
+
+def closed_sides(n, lines):
+    """Each proper side that no arc leaves."""
+    return [side for side in sides(list(range(n))) if len(side) < n and leaving(lines, side) == 0]
+
+
+def enters(line, side):
+    return line[1] in side and line[0] not in side
+
+
+def least_dijoin(n, lines):
+    """The least cost of arcs that aren't fixed, one of which enters each closed side; None where there are none."""
+    wanted = [[(lines[j][3], j) for j in range(len(lines)) if not lines[j][2] and enters(lines[j], side)] for side in closed_sides(n, lines)]
+    wanted.sort(key=len)
+    best = None
+
+    def search(taken, cost, at):
+        nonlocal best
+        if best is not None and cost >= best:
+            return
+        while at < len(wanted) and any(j in taken for _, j in wanted[at]):
+            at += 1
+        if at == len(wanted):
+            best = cost
+            return
+        for price, j in wanted[at]:
+            search(taken | {j}, cost + price, at + 1)
+
+    search(frozenset(), 0, 0)
+    return best
+
+
+def has_dijoin(n, lines):
+    """Whether arcs that aren't fixed enter each closed side: with all of them turned round beside the others, all is reached."""
+    return is_connected(n, [*lines, *((h, t) for t, h, fixed, _ in lines if not fixed)], True, 1)
 
 
 # ---- certificates
@@ -444,7 +540,7 @@ def judge(graph, words, seen):
         return judge_new_lines(graph, int(words[1]), dual, of("arc" if graph.directed else "edge"), sets, value)
     if command == "orient":
         return judge_orientation(graph, int(words[1]), of("arc"), sets)
-    raise NotImplementedError(command)
+    return judge_dijoin(graph, of("join"), sets, value)
 
 
 def judge_new_lines(graph, k, dual, pairs, sets, value):
@@ -466,6 +562,19 @@ def judge_orientation(graph, k, arcs, sets):
     if sets:
         return None if 0 < len(sets[0]) < n and degree(graph.lines, sets[0]) < 2 * k else "dual"
     return None if is_connected(n, arcs, True, k) else "infeasible"
+
+
+def judge_dijoin(graph, joins, sets, value):
+    """A dijoin and closed sides, or a side that forbids each dijoin."""
+    n, lines = len(graph.names), graph.lines
+    closed = all(0 < len(s) < n and leaving(lines, s) == 0 for s in sets)
+    if not joins:
+        return None if closed and all(line[2] for line in lines if enters(line, sets[0])) else "dual"
+    join = joins[0]
+    turned = [(h, t) for t, h, *_ in (lines[j] for j in join)]
+    feasible = len(set(join)) == len(join) and not any(lines[j][2] for j in join) and is_connected(n, [*lines, *turned], True, 1)
+    right = closed and all(fixed or sum(enters(line, s) for s in sets) <= cost for line in lines for *_, fixed, cost in [line])
+    return "infeasible" if not feasible else "dual" if not right else None if value == sum(lines[j][3] for j in join) == len(sets) else "gap"
 
 
 def judge_parts(graph, words, parts, sets, value):

@@ -7,8 +7,9 @@ The bugs of a crate stand in tools/plants/NAME.txt, with blank lines between: a 
 the lines 'file:', 'old:' and 'new:' of a must-fail edit. They are tried in a copy of the repository. The proof of a
 function sees of the others only their contracts, so that bugs in different functions are tried by one check; with
 --alone each is tried by itself, as a must-fail edit. A bug that no proof refuses, or that is refused only since a proof
-names what it took away, is tried by itself with the tests of library_tests and of connect_tests. --only takes the bugs
-whose title has the words (a regular expression). Ends with 0 where each bug is refused by a proof or caught by a test.
+names what it took away, is tried by itself with the tests of library_tests and of connect_tests; a test that runs out of
+time catches nothing. --only takes the bugs whose title has the words (a regular expression). Ends with 0 where each bug
+is refused by a proof or caught by a test.
 """
 
 import os
@@ -199,6 +200,12 @@ def judged_alone(said):
 
 # ---- tests
 
+def failures(said):
+    """What the tests that failed said. One that only ran out of time caught nothing: the bug may be that it is slow."""
+    blocks = re.findall(r"^test .* FAILED\n(?: .*\n)*", said, re.M)
+    return [block for block in blocks if "did not end within the time limit" not in block]
+
+
 def try_tests(room, plant):
     """The first suite of tests that fails with the bug, or None."""
     with Planted(room / "crates" / plant.crate, [plant]):
@@ -207,9 +214,13 @@ def try_tests(room, plant):
             if status == 2 or "error[" in said:
                 plant.kind, plant.said = "unread", said[:300]
                 return None
-            if "FAILED" in said or status not in (0, 1):
-                plant.said = next((line for line in said.split("\n") if "FAILED" in line), said[-200:])
+            if failed := failures(said):
+                plant.said = failed[0].split("\n")[0]
                 return suite
+            if status and "FAILED" not in said:
+                plant.said = said[-200:]
+                return suite
+            plant.said += " (tests ran out of time)" if "FAILED" in said else ""
     return None
 
 

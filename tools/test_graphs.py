@@ -26,10 +26,11 @@ def graph_of(kind, text):
     """A graph from words such as "ab bc", whose nodes are the letters in order; * before a word marks an arc that is fixed."""
     graph = plain.Graph(kind == "directed")
     graph.names = [c.encode() for c in sorted({*text} - {*" *."})]
+    graph.numbers = [0 for _ in graph.names]
     for word in text.replace(".", " ").split():
         if len(word.strip("*")) == 2:
             u, v = (graph.number(c.encode()) for c in word.strip("*"))
-            graph.lines.append((u, v, word.startswith("*")))
+            graph.lines.append((u, v, word.startswith("*"), 1))
     return graph
 
 
@@ -50,6 +51,8 @@ def fault_of(text, alone=True):
 
 def test_graph_texts():
     head = "graph undirected\nnode a\nnode b\n"
+    arcs = "graph directed\nnode a\nnode b\n"
+    full = "graph undirected\n" + "".join(f"node {j} 8192\n" for j in range(8))
     for text, fault in [
         (head + "edge a b\nend\n", None),
         ("# note\r\n\n\tgraph  undirected \nnode a\nend", None),
@@ -72,8 +75,30 @@ def test_graph_texts():
         (head + "end\n# note\n", None),
         ("graph directed\n" + "".join(f"node {j}\n" for j in range(129)), (130, "nodes")),
         (head + 2049 * "edge a b\n" + "end\n", (3 + 2049, "lines")),
+        (head + "node c 8192\nend\n", None),
+        (head + "node c 8193\n", (4, "number")),
+        (head + "node c 01\n", (4, "number")),
+        (head + "node c -1\n", (4, "number")),
+        (head + "node c! x\n", (4, "name")),
+        (head + "node a x\n", (4, "number")),
+        (head + "node c 1 2\n", (4, "line")),
+        (head + "edge a b cost 1\n", (4, "line")),
+        (head + "arc a b cost x\n", (4, "kind")),
+        (arcs + "arc a b cost 100\narc b a cost 0\nend\n", None),
+        (arcs + "arc a b cost 101\n", (4, "number")),
+        (arcs + "arc a c cost x\n", (4, "number")),
+        (arcs + "arc a b cost\n", (4, "line")),
+        (arcs + "arc a b fixed cost 3\n", (4, "line")),
+        (full + "node a\nend\n", None),
+        (full + "node a 1\n", (10, "numbers")),
+        (full + "node 0 1\n", (10, "twice")),
+        (arcs + 40 * "arc a b cost 100\n" + "arc b a cost 0\nend\n", None),
+        (arcs + 40 * "arc a b cost 100\n" + "arc b a fixed\n", (44, "costs")),
+        (arcs + 40 * "arc a b cost 100\n" + "arc b b\n", (44, "loop")),
     ]:
         want(f"the fault of {text[:60]!r}", fault_of(text), fault)
+    graph, *_ = plain.read_graph(b"graph directed\nnode a 7\nnode b\narc a b cost 3\narc b a fixed\narc a b\nend\n")
+    want("numbers and costs are read", (graph.numbers, graph.lines), ([7, 0], [(0, 1, False, 3), (1, 0, True, 1), (0, 1, False, 1)]))
     want("what follows a graph isn't read with it", fault_of(head + "end\nedge a b\n", alone=False), None)
 
 
@@ -87,6 +112,17 @@ def test_words():
                               (ARCS("ab"), ["trees"], "kind"), (EDGES("a"), ["trees"], "small"),
                               (ARCS("a"), ["arborescences", "a"], "small"), (EDGES("a"), ["augment", "3"], None)]:
         want(f"why {words} is unsuited", plain.unfit(graph, words), why)
+
+
+def test_generated():
+    want("the first draw from 0", plain.draws(0)(10), 7)
+    graph, words = plain.trial("augment-arcs", 2, 5)
+    want("two nodes have seven parallel lines", (graph.lines, graph.directed, words), (7 * [(0, 1, False, 1)], True, ["augment-arcs", "4"]))
+    graph, words = plain.trial("flow", 40, 7)
+    want("a tree comes first, and each line goes up", ([h for _, h, *_ in graph.lines[:39]], all(t < h for t, h, *_ in graph.lines)),
+         (list(range(1, 40)), True))
+    want("the ends of a flow", words, ["flow", "n1", "n40"])
+    want("its text reads back", plain.read_graph(plain.plain_text(graph))[0].lines, graph.lines)
 
 
 # ---- counts and objects
@@ -134,6 +170,14 @@ def test_best_values():
          [True, False, True, True])
 
 
+def test_dijoins():
+    want("closed sides of two arcs into one node", plain.closed_sides(3, ARCS("ab cb").lines), [{1}, {0, 1}, {1, 2}])
+    costly = [(0, 1, False, 2), (1, 2, False, 3)]
+    want("least dijoins", [plain.least_dijoin(n, lines) for n, lines in
+                           ((3, ARCS("ab cb").lines), (3, ARCS("ab bc ca").lines), (2, []), (2, ARCS("*ab").lines), (2, ARCS("*ab ab").lines), (3, costly))],
+         [2, 0, None, None, 1, 5])
+
+
 # ---- the best values, by searches over all objects
 
 def fewest_new(n, lines, directed, k):
@@ -161,6 +205,14 @@ def most_parts(lines, good, size):
     return most(set(), 0)
 
 
+def cheapest_dijoin(n, lines):
+    """The least cost of a dijoin without fixed arcs by a search over all sets of arcs, or None."""
+    free = [j for j in range(len(lines)) if not lines[j][2]]
+    costs = [sum(lines[j][3] for j in join) for size in range(len(free) + 1) for join in itertools.combinations(free, size)
+             if plain.is_connected(n, [*lines, *((lines[j][1], lines[j][0]) for j in join)], True, 1)]
+    return min(costs, default=None)
+
+
 def test_searches():
     rng = random.Random(5)
     for _ in range(150):
@@ -172,7 +224,11 @@ def test_searches():
             if found is not None:
                 want(f"{least.__name__} of {lines} on {n} nodes, k = {k}", least(n, lines, k), found)
         want(f"orientation of {lines}, k = {k}", plain.has_orientation(n, lines, k), turned(n, lines, k))
+        want(f"cuts of {lines} with 2 k edges, k = {k}", plain.is_connected(n, lines, False, 2 * k), turned(n, lines, k))
         want(f"trees of {lines}", plain.most_trees(n, lines), most_parts(lines, lambda p: plain.is_forest(n, p), n - 1))
+        arcs = [(t, h, rng.random() < 0.2, rng.randint(0, 3)) for t, h in lines]
+        want(f"least dijoin of {arcs}", plain.least_dijoin(n, arcs), cheapest_dijoin(n, arcs))
+        want(f"whether there is a dijoin of {arcs}", plain.has_dijoin(n, arcs), cheapest_dijoin(n, arcs) is not None)
         want(f"arborescences of {lines} from {root}", plain.most_arborescences(n, lines, root),
              most_parts(lines, lambda p: plain.is_arborescence(n, p, root), n - 1))
 
@@ -268,6 +324,34 @@ CERTIFICATES = [
         ("impossible / dual cut / set a b / end", "dual"),
         ("impossible / dual cut / end", 5),
     ]),
+]
+
+COSTLY = plain.Graph(True)
+COSTLY.names, COSTLY.numbers, COSTLY.lines = [b"a", b"b", b"c"], [0, 0, 0], [(0, 1, False, 2), (1, 2, False, 3)]
+CERTIFICATES += [
+    (ARCS("ab cb"), "dijoin", [
+        ("value 2 / join 1 2 / dual dicuts / set a b / set b c / end", None),
+        ("value 2 / join 1 2 / dual dicuts / set b / set b / end", "dual"),
+        ("value 2 / join 1 2 / dual dicuts / set a / set b c / end", "dual"),
+        ("value 2 / join 1 2 / dual dicuts / set a b / end", "gap"),
+        ("value 1 / join 1 / dual dicuts / set a b / end", "infeasible"),
+        ("value 2 / join 1 1 / dual dicuts / set a b / set b c / end", "infeasible"),
+        ("value 2 / join 1 2 / join / dual dicuts / set a b / set b c / end", 5),
+        ("impossible / dual dicut / set b / end", "dual"),
+        ("impossible / dual cut / set b / end", 4),
+    ]),
+    (COSTLY, "dijoin", [
+        ("value 5 / join 1 2 / dual dicuts / set b c / set b c / set c / set c / set c / end", None),
+        ("value 5 / join 1 2 / dual dicuts / set b c / set b c / set b c / set c / set c / end", "dual"),
+        ("value 2 / join 1 2 / dual dicuts / set b c / set c / end", "gap"),
+    ]),
+    (ARCS("*ab"), "dijoin", [
+        ("impossible / dual dicut / set b / end", None),
+        ("impossible / dual dicut / set a / end", "dual"),
+        ("impossible / dual dicut / set a b / end", "dual"),
+        ("value 1 / join 1 / dual dicuts / set b / end", "infeasible"),
+    ]),
+    (ARCS("ab bc ca"), "dijoin", [("value 0 / join / dual dicuts / end", None)]),
 ]
 
 

@@ -3,28 +3,37 @@
 
 usage: try_program.py [PROGRAM [ROUNDS [SEED]]]
 
-PROGRAM is the one that ./connect builds, ROUNDS is 300 and SEED is 1 where they are left out. Ends with 0 where all came
-out as wanted. Else it says what didn't, leaves the input as failed.graph, and ends with 1.
+PROGRAM is the one that ./connect builds, ROUNDS is 300 and SEED is 1 where they are left out. Half of the rounds have graphs
+of the forms of forms.py. The values of larger ones are compared with those of tools/yardstick.cpp, where a C++ compiler is.
+Ends with 0 where all came out as wanted. Else it says what didn't, leaves the input as failed.graph, and ends with 1.
 """
 
 import random
 import subprocess
 import sys
+import tempfile
 from pathlib import Path
 
+import bench
+import forms
 import graphs as plain
 
-# The commands that are built, and those whose certificates are checked.
-SOLVED = ["flow", "cuttree", "augment", "augment-arcs", "arborescences", "trees", "forests", "orient"]
-CHECKED = SOLVED
+SOLVED = ["flow", "cuttree", "augment", "augment-arcs", "arborescences", "trees", "forests", "orient", "dijoin"]
 # The plain searches for a best value pass over all families of disjoint sides, of which seven nodes have too many.
 MOST_SEARCHED = 6
-HERE = Path(__file__).resolve().parent
+# And those over all sides, or all partitions, of which nine nodes have too many. Larger graphs have at most so many nodes.
+MOST_SIDES, MOST_FORMED = 8, 20
+HERE, MOST_SECONDS = Path(__file__).resolve().parent, 120
+# The plain program for the values of larger graphs, where it could be built.
+yardstick = None
 EXIT = {"rejected": 2, "words": 3, "graph": 4, "large": 5, "unsuited": 6}
 
 
 def run(program, words, data):
-    done = subprocess.run([program, *words], input=data, capture_output=True, timeout=120, check=False)
+    try:
+        done = subprocess.run([program, *words], input=data, capture_output=True, timeout=MOST_SECONDS, check=False)
+    except subprocess.TimeoutExpired:
+        fail(words, data, f"no answer in {MOST_SECONDS} s", "an answer")
     if done.stderr:
         fail(words, data, done.stderr, b"nothing on standard error")
     return done.stdout, done.returncode
@@ -37,16 +46,16 @@ def line(*words):
 def refusal(words, data):
     """The line with which the program refuses the words or the input, or None."""
     place = plain.bad_word(words)
-    if place is None and words[0] not in SOLVED + ["check"]:
-        place = 1
     if place:
         return line("words", place)
+    if words[0] == "trial":
+        return None
     if len(data) > plain.MOST_BYTES:
         return line("large", "bytes")
     try:
         graph = plain.read_graph(data)[0] if words[0] == "check" else plain.read_graph_alone(data)
     except plain.Fault as fault:
-        return line("large", fault.why) if fault.why in ("nodes", "lines") else line("graph", fault.line, fault.why)
+        return line("large", fault.why) if fault.why in ("nodes", "lines", "numbers", "costs") else line("graph", fault.line, fault.why)
     if words[0] == "check":
         return None
     why = plain.unfit(graph, words)
@@ -62,14 +71,22 @@ def verdict(data):
         return line("rejected", "malformed", bad.line)
     if size < len(data) - taken:
         return line("rejected", "malformed", lines + 1)
-    if words[0] not in CHECKED:
-        return line("rejected", "malformed", 2)
     why = plain.judge(graph, words, seen)
     return line("rejected", why) if why else line("accepted")
 
 
+def yardstick_value(graph, words):
+    """The value by the plain program, which knows no dijoins, or None; for a cut tree it is the sum of the weights."""
+    if not yardstick or words[0] == "dijoin":
+        return None
+    done = subprocess.run([yardstick, *words], input=plain.plain_text(graph), capture_output=True, timeout=120, check=True)
+    return int(done.stdout)
+
+
 def best_value(graph, words):
-    """The value that an answer has, found another way, or None where it has none."""
+    """The value that an answer has, found another way, or None where it has none or where that would take too long."""
+    if len(graph.names) > MOST_SIDES:
+        return None
     if words[0] == "flow":
         s, t = (graph.number(w.encode()) for w in words[1:])
         return plain.most_walks(len(graph.names), graph.lines, graph.directed, s, t)
@@ -82,11 +99,31 @@ def best_value(graph, words):
     if words[0] in ("augment", "augment-arcs") and len(graph.names) <= MOST_SEARCHED:
         least = plain.least_arcs if graph.directed else plain.least_edges
         return least(len(graph.names), graph.lines, int(words[1]))
+    if words[0] == "dijoin" and len(graph.names) <= MOST_SEARCHED:
+        return plain.least_dijoin(len(graph.names), graph.lines)
     return None
 
 
+def trial_answer(program, words):
+    """A trial's line and exit number, by what its command answers on the graph that the plain generator makes."""
+    graph, asked = plain.trial(words[1], int(words[2]), int(words[3]))
+    data = plain.plain_text(graph)
+    text, status = run(program, asked, data)
+    said, seen, _, size = plain.read_certificate(graph, text)
+    expect(asked, data, (said, size, plain.judge(graph, said, seen)), (asked, len(text), None))
+    held = dict(seen)
+    return line("value", held["value"]) if "value" in held else line("impossible" if "impossible" in held else "done"), status
+
+
 def is_possible(graph, words):
-    return words[0] != "orient" or plain.has_orientation(len(graph.names), graph.lines, int(words[1]))
+    n, lines = len(graph.names), graph.lines
+    if words[0] == "dijoin" and n > MOST_SIDES:
+        return plain.has_dijoin(n, lines)
+    if words[0] == "dijoin":
+        return all(any(plain.enters(line, side) and not line[2] for line in lines) for side in plain.closed_sides(n, lines))
+    if words[0] == "orient" and n > MOST_SIDES:
+        return plain.is_connected(n, lines, False, 2 * int(words[1]))
+    return words[0] != "orient" or plain.has_orientation(n, lines, int(words[1]))
 
 
 def compare(program, words, data):
@@ -94,6 +131,9 @@ def compare(program, words, data):
     wanted = refusal(words, data)
     if wanted:
         expect(words, data, (text, status), (wanted, EXIT[wanted.split()[0].decode()]))
+        return
+    if words[0] == "trial":
+        expect(words, data, (text, status), trial_answer(program, words))
         return
     if words[0] == "check":
         wanted = verdict(data)
@@ -104,11 +144,12 @@ def compare(program, words, data):
     expect(words, data, (said, size, status), (words, len(text), 0 if is_possible(graph, words) else 1))
     expect(words, data, ("impossible", None) in seen, status == 1)
     expect(words, data, plain.judge(graph, said, seen), None)
-    best = best_value(graph, words)
+    best = best_value(graph, words) if status == 0 else None
     if best is not None:
         expect(words, data, dict(seen)["value"], best)
-    if words[0] not in CHECKED:
-        return
+    value = yardstick_value(graph, words) if len(graph.names) > MOST_SIDES else None
+    if value is not None:
+        expect(words, data, bench.value_of(words[0], text), value)
     front = data[:taken] if data[:taken].endswith(b"\n") else data[:taken] + b"\n"
     expect(words, data, run(program, ["check"], front + text), (b"accepted\n", 0))
     for _ in range(2):
@@ -128,17 +169,25 @@ def fail(words, data, got, wanted):
 
 # ---- random texts
 
+def rarely(form, most):
+    """Seldom the form of a number from 0 to the most, and now and then of one past it."""
+    return form % random.choice([0, 1, most, random.randint(0, most), most + (random.random() < 0.05)]) if random.random() < 0.2 else b""
+
+
 def random_graph(directed, most_nodes=7, most_lines=24):
     n = random.randint(1, most_nodes)
-    names = random.sample(["a", "b", "c", "node", "end", "fixed", "x.1", "Y_2", "-", "edge", "q" * 32], n)
+    names = random.sample(["a", "b", "c", "node", "end", "fixed", "cost", "x.1", "Y_2", "-", "edge", "q" * 32], n)
     lines = [b"graph directed" if directed else b"graph undirected"]
-    lines += [b"node " + name.encode() for name in names]
+    lines += [b"node " + name.encode() + rarely(b" %d", 8192) for name in names]
     word = b"arc " if directed else b"edge "
+    # Half of the digraphs have no circuit, and so closed sides.
+    upward, often = directed and random.random() < 0.5, random.choice([0.1, 0.1, 0.5])
     if n > 1:
         for _ in range(random.randint(0, most_lines)):
             u, v = random.sample(names, 2)
-            fixed = b" fixed" if directed and random.random() < 0.1 else b""
-            lines.append(word + u.encode() + b" " + v.encode() + fixed)
+            u, v = sorted((u, v), key=names.index) if upward else (u, v)
+            end = (b" fixed" if random.random() < often else rarely(b" cost %d", 100)) if directed else b""
+            lines.append(word + u.encode() + b" " + v.encode() + end)
     lines.append(b"end")
     return names, lines
 
@@ -165,7 +214,7 @@ def mutated(data):
             data = data[:at] + random.choice([b"", b"a", b" ", b"\n", b"\r", b"1", b"0", b"\xff", b"#"]) + data[at + 1:]
         elif kind < 0.5:
             at = random.randint(0, len(data))
-            data = data[:at] + random.choice([b" ", b"\n", b"0", b"end\n", b"set\n", b"z", b"\t"]) + data[at:]
+            data = data[:at] + random.choice([b" ", b"\n", b"0", b"end\n", b"set\n", b"z", b"\t", b" cost 1", b" 07"]) + data[at:]
         elif kind < 0.85 and b"\n" in data:
             lines = data.split(b"\n")
             at, other = random.randrange(len(lines)), random.randrange(len(lines))
@@ -186,20 +235,26 @@ def mutated(data):
     return data
 
 
-def random_words(names, directed):
+def random_words(names, directed, counts):
+    if random.random() < 0.05:
+        return ["trial", random.choice(plain.KINDS), str(random.randint(2, 12)), str(random.randrange(2 ** 32))]
     if random.random() < 0.1:
         pool = list(plain.COMMANDS) + plain.KINDS + names + ["0", "1", "02", "32", "33", "+1", "4294967296", "", "a b"]
         return [random.choice(pool) for _ in range(random.randint(0, 4))]
-    suited = ["flow", "arborescences", "augment-arcs"] if directed else ["flow", "cuttree", "trees", "forests", "augment", "orient"]
-    command = random.choice([it for it in suited if it in SOLVED] if random.random() < 0.9 else SOLVED)
+    suited = ["flow", "arborescences", "augment-arcs", "dijoin", "dijoin"] if directed else ["flow", "cuttree", "trees", "forests", "augment", "orient"]
+    command = random.choice(suited if random.random() < 0.9 else SOLVED)
     pick = lambda: random.choice(names) if random.random() < 0.97 else "nobody"
-    k = str(random.choice([1, 1, 2, 2, 3, 4, 5, random.randint(1, 32)]))
+    k = str(random.choice(counts))
     after = {"flow": [pick(), pick()], "arborescences": [pick()], "augment": [k], "augment-arcs": [k], "orient": [k]}
     return [command] + after.get(command, [])
 
 
-# Inputs that random ones seldom are. In the second graph sets that lack entering arcs cross, so that only sets that lack
-# leaving ones prove the answer.
+# Beginnings of texts: two nodes without an arc, and nodes whose numbers add up to the most.
+HEAD, ARCS = b"graph undirected\n", b"graph directed\nnode a\nnode b\n"
+FULL = HEAD + b"".join(b"node x%d 8192\n" % j for j in range(1, 9))
+
+# Inputs that random ones seldom are, and trials, which read none. In the second graph sets that lack entering arcs cross, so
+# that only sets that lack leaving ones prove the answer.
 FIXED = [
     (["augment-arcs", "1"], b"graph directed\nnode a\nnode b\nnode c\narc a b\narc a c\nend\n"),
     (["augment-arcs", "2"], b"graph directed\nnode c\nnode a\nnode b\n" + 2 * b"arc c a\narc c b\n" + b"arc a c\narc b c\nend\n"),
@@ -207,10 +262,54 @@ FIXED = [
     (["augment", "32"], b"graph undirected\nnode a\nend\n"),
     (["orient", "1"], b"graph undirected\nnode a\nnode b\nnode c\nnode d\n" + b"".join(b"edge %c %c\n" % tuple(p) for p in [b"ab", b"ac", b"ad", b"bc", b"bd", b"cd"]) + b"end\n"),
     (["orient", "1"], b"graph undirected\nnode a\nnode b\nedge a b\nend\n"),
+    (["dijoin"], ARCS + b"end\n"),
+    (["dijoin"], ARCS + b"arc a b fixed\nend\n"),
+    (["dijoin"], ARCS + b"arc a b fixed\narc a b\nend\n"),
+    (["dijoin"], ARCS + b"arc a b cost 0\nend\n"),
+    (["dijoin"], ARCS + 40 * b"arc a b cost 100\n" + b"end\n"),
+    (["dijoin"], ARCS + b"node c\narc a b cost 2\narc b c cost 3\nend\n"),
+    (["dijoin"], ARCS + b"node c\narc a b\narc c b\nend\n"),
+    (["dijoin"], ARCS + b"node c\narc a b\narc b c\narc c a\nend\n"),
+    (["forests"], FULL + b"end\n"),
+    (["forests"], FULL + b"node x9 8192\nend\n"),
+    (["forests"], FULL + b"node x1 8192\nend\n"),
+    (["flow", "a", "b"], ARCS + 40 * b"arc a b cost 100\n" + b"arc b a cost 0\nend\n"),
+    (["flow", "a", "b"], ARCS + 41 * b"arc a b cost 100\n" + b"end\n"),
+    (["flow", "a", "b"], ARCS + 40 * b"arc a b cost 100\n" + b"arc b a fixed\nend\n"),
+    (["flow", "a", "b"], ARCS + b"arc a b cost 101\nend\n"),
+    (["flow", "a", "b"], ARCS + b"arc a b fixed cost 3\nend\n"),
+    (["forests"], HEAD + b"node a! x\nend\n"),
+    *((["trial", kind, nodes, number], b"") for kind in plain.KINDS for nodes, number in (("2", "0"), ("40", "7"), ("24", "4294967295"))),
 ]
 
 
+def longest():
+    """Texts of the greatest length and of a byte more, which who imports this file needn't hold."""
+    return [(["forests"], size * b"#") for size in (plain.MOST_BYTES, plain.MOST_BYTES + 1)]
+
+
+def random_input():
+    """Words and a graph's text, which half of the time is of one of the forms, and seldom of one with many nodes."""
+    directed = random.random() < 0.4
+    if random.random() < 0.5:
+        (names, lines), counts = random_graph(directed), [1, 1, 2, 2, 3, 4, 5, random.randint(1, 32)]
+    else:
+        few, many = random.choice([1, 2, 2, 3, 4, 5, 6, 6]), random.randint(MOST_SIDES + 1, MOST_FORMED)
+        (names, lines), counts = forms.formed(directed, many if random.random() < 0.15 else few), forms.COUNTS
+    return random_words(names, directed, counts), spelled(lines)
+
+
+def try_all(program, rounds):
+    for words, data in [*FIXED, *longest()]:
+        compare(program, words, data)
+    for _ in range(rounds):
+        words, data = random_input()
+        compare(program, words, data)
+        compare(program, words, mutated(data))
+
+
 def main(words):
+    global yardstick
     if {"-h", "--help"} & {*words}:
         print(__doc__)
         return
@@ -219,15 +318,9 @@ def main(words):
     program = words[0] if words else str(HERE.parent / "crates/connect/out/connect")
     rounds, seed = (int(word) for word in [*words[1:], *["300", "1"][len(words[1:]):]])
     random.seed(seed)
-    for words, data in FIXED:
-        compare(program, words, data)
-    for _ in range(rounds):
-        directed = random.random() < 0.4
-        names, lines = random_graph(directed)
-        data = spelled(lines)
-        words = random_words(names, directed)
-        compare(program, words, data)
-        compare(program, words, mutated(data))
+    with tempfile.TemporaryDirectory() as room:
+        yardstick = bench.yardstick(room)
+        try_all(program, rounds)
     print(f"{rounds} rounds from seed {seed}: as wanted")
 
 

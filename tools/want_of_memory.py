@@ -50,6 +50,8 @@ COMMANDS = [
     ("augment 3", "backbone.graph"),
     ("augment-arcs 2", DIGRAPH),
     ("orient 1", "backbone.graph"),
+    ("dijoin", b"graph directed\nnode x\nnode y 3\nnode z\narc x y cost 2\narc z y\nend\n"),
+    ("trial trees 2 0", b""),
     # Refusals, which take memory, too.
     ("flow a", "square.graph"),
     ("flow a a", "square.graph"),
@@ -169,11 +171,8 @@ def main(words):
             while runs:
                 said, words, given = runs.pop()
                 tried, same, (written, _, status) = try_command(program, shim, words, given)
-                if written == b"words 1\n" and status == 3:
-                    print(f"| `{said}` | {name} | isn't built yet | | |")
-                    continue
                 print(f"| `{said}` | {name} | {tried} | {tried - same} | {same} |", flush=True)
-                if status == 0 and words != ["check"]:
+                if status == 0 and words[0] not in ("check", "trial"):
                     runs.append((f"check of `{said}`".replace("`", ""), ["check"], given + written))
 
 

@@ -1,5 +1,6 @@
 pub mod ArborescenceLaws
 pub mod CopyLaws
+pub mod DicutLaws
 pub mod Ends
 pub mod Enough
 pub mod Feasible
@@ -7,5 +8,6 @@ pub mod LineCounts
 pub mod MarkLaws
 pub mod OneAnswer
 pub mod ReachLaws
+pub mod ScanLaws
 pub mod SideCounts
 pub mod TreeLaws

@@ -3,11 +3,10 @@ use Rattle.std.proofs.Common.{◌≡◌, ℕ, ◌+◌, ◌<◌, ◌≤◌, ◌==
 use Rattle.std.specs.Prelude.{All}
 use Rattle.std.specs.Bool.{OnTrue, OnFalse}
 use Rattle.std.proofs.lemmas.Bool.{false≢true}
-use Rattle.graph_core.specs.Walks.{AreDisjoint}
 use Rattle.std.specs.List.{concat, sum_by}
 use Rattle.std.proofs.lemmas.List.Elements.{All-from_get_or}
 use Rattle.std.proofs.lemmas.List.Sums.{sum_by_more, sum_by_more_le}
-use Rattle.graph_core.specs.Picked.{occurrences}
+use Rattle.graph_core.specs.Picked.{occurrences, IsDistinct}
 use Rattle.graph_core.specs.Side.{has}
 use Rattle.graph_core.proofs.Counting.{sum_by-concat}
 use Rattle.graph_core.proofs.SideLaws.{has-none}
@@ -41,17 +40,17 @@ pub mark-le : (X : List Bool) (j : ℕ) → mark X j ≤ 1
 mark-le X j = elim (has X j) as (λ b. cond {A = ℕ} b 1 0 ≤ 1) [ true ↦ lit≤ tt | false ↦ lit≤ tt ]
 
 -- no number stands twice, where each got a mark that it hadn't before
-pub marked-apart : (n : ℕ) (old new : List Bool) (rows : List (List ℕ)) (all : Bool) → old ≡ replicate n false
-    → OnTrue all ((j : ℕ) → mark new j ≡ mark old j + occurrences j (concat rows)) → OnFalse all ((j : ℕ) × (j < n) × (2 ≤ mark old j + occurrences j (concat rows))) → IsTrue all ↔ AreDisjoint rows
-marked-apart n old new rows true start once twice = (
-  λ _ j. let known : mark new j ≡ mark old j + occurrences j (concat rows) = once j in let one = mark-le new j in omega arith,
+pub marked-apart : (n : ℕ) (old new : List Bool) (js : List ℕ) (all : Bool) → old ≡ replicate n false
+    → OnTrue all ((j : ℕ) → mark new j ≡ mark old j + occurrences j js) → OnFalse all ((j : ℕ) × (j < n) × (2 ≤ mark old j + occurrences j js)) → IsTrue all ↔ IsDistinct js
+marked-apart n old new js true start once twice = (
+  λ _ j. let known : mark new j ≡ mark old j + occurrences j js = once j in let one = mark-le new j in omega arith,
   λ _. refl,
 )
-marked-apart n old new rows false start once (x, below, two) = (
+marked-apart n old new js false start once (x, below, two) = (
   λ never. absurd (false≢true never),
-  λ disjoint.
+  λ distinct.
       let none : mark old x ≡ 0 = ap (λ X. mark X x) start ∙ unmarked n x in
-      let once : occurrences x (concat rows) ≤ 1 = disjoint x in
+      let once : occurrences x js ≤ 1 = distinct x in
       absurd (omega arith),
 )
 

@@ -1,5 +1,5 @@
 -- A text is accepted, or rejected for one reason.
-use Rattle.std.proofs.Common.{◌≡◌, ◌≢◌, inl, inr, ℕ, ◌+◌, ◌<◌, Bool, true, false, true≢false, List, [], ◌++◌, length, Option, None, Some, refl, sym, ap, subst, ◌∙◌, append-nil, arith}
+use Rattle.std.proofs.Common.{◌≡◌, ◌≢◌, inl, inr, ℕ, ◌+◌, ◌<◌, List, [], ◌++◌, length, Option, None, Some, refl, sym, ap, subst, ◌∙◌, append-nil, arith}
 use Rattle.std.proofs.lemmas.List.{append_cancel_left}
 use Rattle.graph_core.specs.Graph.{GraphValue, IsGraph}
 use Rattle.problem_defs.specs.Meets.{HasObject, HasDual, HasValue}
@@ -9,62 +9,46 @@ use Rattle.certificate_text.specs.BadLine.{IsBad}
 use Rattle.certificate_text.specs.Text.{text, byte_lines}
 use Rattle.certificate_text.proofs.TextLaws.{one-certificate}
 use Rattle.certificate_checker.specs.Accepted.{IsAccepted}
-use Rattle.certificate_checker.specs.Checked.{is_checked}
 use Rattle.certificate_checker.specs.Flaws.{IsTextOf}
-use Rattle.certificate_checker.specs.Malformed.{GoesOn, IsUnchecked}
+use Rattle.certificate_checker.specs.Malformed.{GoesOn}
 use Rattle.certificate_checker.specs.Reason.{IsReason}
 use Rattle.certificate_checker.specs.declared.rejection.Rejection.{Rejection}
 use Rattle.certificate_checker.specs.declared.rejection.Rejection.TheVariants.{Malformed, Infeasible, BadDual, Gap, NoMemory}
 
 -- what is said of a certificate and of what follows its text: None where it is accepted
 data Says (g : GraphValue) (cert : Cert) (rest : List ℕ) : Option Rejection → Type 0 where
-  unchecked : is_checked cert.ask ≡ false → Says g cert rest (Some (Malformed 2))
-  more : is_checked cert.ask ≡ true → rest ≢ [] → Says g cert rest (Some (Malformed (length (byte_lines g cert) + 1)))
-  no_object : is_checked cert.ask ≡ true → rest ≡ [] → ¬ HasObject g cert.ask cert.body → Says g cert rest (Some Infeasible)
-  no_dual : is_checked cert.ask ≡ true → rest ≡ [] → HasObject g cert.ask cert.body → ¬ HasDual g cert.ask cert.body → Says g cert rest (Some BadDual)
-  no_value : is_checked cert.ask ≡ true → rest ≡ [] → HasObject g cert.ask cert.body → HasDual g cert.ask cert.body → ¬ HasValue g cert.ask cert.body → Says g cert rest (Some Gap)
-  meets : is_checked cert.ask ≡ true → rest ≡ [] → HasObject g cert.ask cert.body → HasDual g cert.ask cert.body → HasValue g cert.ask cert.body → Says g cert rest None
-
-unlike : {A : Type 0} (b : Bool) → b ≡ true → b ≡ false → A
-unlike b t f = absurd (true≢false (sym t ∙ f))
+  more : rest ≢ [] → Says g cert rest (Some (Malformed (length (byte_lines g cert) + 1)))
+  no_object : rest ≡ [] → ¬ HasObject g cert.ask cert.body → Says g cert rest (Some Infeasible)
+  no_dual : rest ≡ [] → HasObject g cert.ask cert.body → ¬ HasDual g cert.ask cert.body → Says g cert rest (Some BadDual)
+  no_value : rest ≡ [] → HasObject g cert.ask cert.body → HasDual g cert.ask cert.body → ¬ HasValue g cert.ask cert.body → Says g cert rest (Some Gap)
+  meets : rest ≡ [] → HasObject g cert.ask cert.body → HasDual g cert.ask cert.body → HasValue g cert.ask cert.body → Says g cert rest None
 
 said-once : (g : GraphValue) (cert : Cert) (rest : List ℕ) (a b : Option Rejection) → Says g cert rest a → Says g cert rest b → a ≡ b
-said-once g cert rest a b (unchecked u) (unchecked v) = refl
-said-once g cert rest a b (unchecked u) (more c r) = unlike (is_checked cert.ask) c u
-said-once g cert rest a b (unchecked u) (no_object c r o) = unlike (is_checked cert.ask) c u
-said-once g cert rest a b (unchecked u) (no_dual c r o d) = unlike (is_checked cert.ask) c u
-said-once g cert rest a b (unchecked u) (no_value c r o d v) = unlike (is_checked cert.ask) c u
-said-once g cert rest a b (unchecked u) (meets c r o d v) = unlike (is_checked cert.ask) c u
-said-once g cert rest a b (more c r) (unchecked u) = unlike (is_checked cert.ask) c u
-said-once g cert rest a b (more c r) (more c' r') = refl
-said-once g cert rest a b (more c r) (no_object c' r' o) = absurd (r r')
-said-once g cert rest a b (more c r) (no_dual c' r' o d) = absurd (r r')
-said-once g cert rest a b (more c r) (no_value c' r' o d v) = absurd (r r')
-said-once g cert rest a b (more c r) (meets c' r' o d v) = absurd (r r')
-said-once g cert rest a b (no_object c r o) (unchecked u) = unlike (is_checked cert.ask) c u
-said-once g cert rest a b (no_object c r o) (more c' r') = absurd (r' r)
-said-once g cert rest a b (no_object c r o) (no_object c' r' o') = refl
-said-once g cert rest a b (no_object c r o) (no_dual c' r' o' d) = absurd (o o')
-said-once g cert rest a b (no_object c r o) (no_value c' r' o' d v) = absurd (o o')
-said-once g cert rest a b (no_object c r o) (meets c' r' o' d v) = absurd (o o')
-said-once g cert rest a b (no_dual c r o d) (unchecked u) = unlike (is_checked cert.ask) c u
-said-once g cert rest a b (no_dual c r o d) (more c' r') = absurd (r' r)
-said-once g cert rest a b (no_dual c r o d) (no_object c' r' o') = absurd (o' o)
-said-once g cert rest a b (no_dual c r o d) (no_dual c' r' o' d') = refl
-said-once g cert rest a b (no_dual c r o d) (no_value c' r' o' d' v) = absurd (d d')
-said-once g cert rest a b (no_dual c r o d) (meets c' r' o' d' v) = absurd (d d')
-said-once g cert rest a b (no_value c r o d v) (unchecked u) = unlike (is_checked cert.ask) c u
-said-once g cert rest a b (no_value c r o d v) (more c' r') = absurd (r' r)
-said-once g cert rest a b (no_value c r o d v) (no_object c' r' o') = absurd (o' o)
-said-once g cert rest a b (no_value c r o d v) (no_dual c' r' o' d') = absurd (d' d)
-said-once g cert rest a b (no_value c r o d v) (no_value c' r' o' d' v') = refl
-said-once g cert rest a b (no_value c r o d v) (meets c' r' o' d' v') = absurd (v v')
-said-once g cert rest a b (meets c r o d v) (unchecked u) = unlike (is_checked cert.ask) c u
-said-once g cert rest a b (meets c r o d v) (more c' r') = absurd (r' r)
-said-once g cert rest a b (meets c r o d v) (no_object c' r' o') = absurd (o' o)
-said-once g cert rest a b (meets c r o d v) (no_dual c' r' o' d') = absurd (d' d)
-said-once g cert rest a b (meets c r o d v) (no_value c' r' o' d' v') = absurd (v' v)
-said-once g cert rest a b (meets c r o d v) (meets c' r' o' d' v') = refl
+said-once g cert rest a b (more r) (more r') = refl
+said-once g cert rest a b (more r) (no_object r' o) = absurd (r r')
+said-once g cert rest a b (more r) (no_dual r' o d) = absurd (r r')
+said-once g cert rest a b (more r) (no_value r' o d v) = absurd (r r')
+said-once g cert rest a b (more r) (meets r' o d v) = absurd (r r')
+said-once g cert rest a b (no_object r o) (more r') = absurd (r' r)
+said-once g cert rest a b (no_object r o) (no_object r' o') = refl
+said-once g cert rest a b (no_object r o) (no_dual r' o' d) = absurd (o o')
+said-once g cert rest a b (no_object r o) (no_value r' o' d v) = absurd (o o')
+said-once g cert rest a b (no_object r o) (meets r' o' d v) = absurd (o o')
+said-once g cert rest a b (no_dual r o d) (more r') = absurd (r' r)
+said-once g cert rest a b (no_dual r o d) (no_object r' o') = absurd (o' o)
+said-once g cert rest a b (no_dual r o d) (no_dual r' o' d') = refl
+said-once g cert rest a b (no_dual r o d) (no_value r' o' d' v) = absurd (d d')
+said-once g cert rest a b (no_dual r o d) (meets r' o' d' v) = absurd (d d')
+said-once g cert rest a b (no_value r o d v) (more r') = absurd (r' r)
+said-once g cert rest a b (no_value r o d v) (no_object r' o') = absurd (o' o)
+said-once g cert rest a b (no_value r o d v) (no_dual r' o' d') = absurd (d' d)
+said-once g cert rest a b (no_value r o d v) (no_value r' o' d' v') = refl
+said-once g cert rest a b (no_value r o d v) (meets r' o' d' v') = absurd (v v')
+said-once g cert rest a b (meets r o d v) (more r') = absurd (r' r)
+said-once g cert rest a b (meets r o d v) (no_object r' o') = absurd (o' o)
+said-once g cert rest a b (meets r o d v) (no_dual r' o' d') = absurd (d' d)
+said-once g cert rest a b (meets r o d v) (no_value r' o' d' v') = absurd (v' v)
+said-once g cert rest a b (meets r o d v) (meets r' o' d' v') = refl
 
 -- a certificate at the front, and what is said of it
 record Stands (g : GraphValue) (bytes : List ℕ) (a : Option Rejection) : Type 0 where
@@ -91,7 +75,7 @@ accepted-stands g bytes a = record {
   shaped = a.meets.shaped;
   rest = [];
   is = a.is ∙ sym (append-nil (text g a.cert));
-  says = meets a.checked refl a.meets.object a.meets.dual a.meets.value;
+  says = meets refl a.meets.object a.meets.dual a.meets.value;
 }
 
 -- two lines aren't both the first bad one
@@ -111,21 +95,15 @@ data Cause (g : GraphValue) (bytes : List ℕ) : Rejection → Type 0 where
 
 goes-on : (g : GraphValue) (bytes : List ℕ) (line : ℕ) → GoesOn g bytes line → Cause g bytes (Malformed line)
 goes-on g bytes line x =
-    let stands : Stands g bytes (Some (Malformed (length (byte_lines g x.cert) + 1))) = record { cert = x.cert; shaped = x.shaped; rest = x.rest; is = x.is; says = more x.checked x.more } in
-    one (Malformed line) (subst (λ n. Stands g bytes (Some (Malformed n))) (sym x.line_is) stands)
-
-is-unchecked : (g : GraphValue) (bytes : List ℕ) (line : ℕ) → IsUnchecked g bytes line → Cause g bytes (Malformed line)
-is-unchecked g bytes line x =
-    let stands : Stands g bytes (Some (Malformed 2)) = record { cert = x.cert; shaped = x.shaped; rest = x.rest; is = x.is; says = unchecked x.unchecked } in
+    let stands : Stands g bytes (Some (Malformed (length (byte_lines g x.cert) + 1))) = record { cert = x.cert; shaped = x.shaped; rest = x.rest; is = x.is; says = more x.more } in
     one (Malformed line) (subst (λ n. Stands g bytes (Some (Malformed n))) (sym x.line_is) stands)
 
 cause : (g : GraphValue) (bytes : List ℕ) (why : Rejection) → IsReason g bytes why → why ≢ NoMemory → Cause g bytes why
 cause g bytes (Malformed line) (inl bad) other = none line bad
-cause g bytes (Malformed line) (inr (inl x)) other = goes-on g bytes line x
-cause g bytes (Malformed line) (inr (inr x)) other = is-unchecked g bytes line x
-cause g bytes Infeasible x other = one Infeasible (whole-stands g bytes x.cert (Some Infeasible) x.whole (no_object x.whole.checked refl x.object))
-cause g bytes BadDual x other = one BadDual (whole-stands g bytes x.cert (Some BadDual) x.whole (no_dual x.whole.checked refl x.object x.dual))
-cause g bytes Gap x other = one Gap (whole-stands g bytes x.cert (Some Gap) x.whole (no_value x.whole.checked refl x.object x.dual x.value))
+cause g bytes (Malformed line) (inr x) other = goes-on g bytes line x
+cause g bytes Infeasible x other = one Infeasible (whole-stands g bytes x.cert (Some Infeasible) x.whole (no_object refl x.object))
+cause g bytes BadDual x other = one BadDual (whole-stands g bytes x.cert (Some BadDual) x.whole (no_dual refl x.object x.dual))
+cause g bytes Gap x other = one Gap (whole-stands g bytes x.cert (Some Gap) x.whole (no_value refl x.object x.dual x.value))
 cause g bytes NoMemory x other = absurd (other refl)
 
 some-same : (a b : Rejection) → Some a ≡ Some b → a ≡ b

@@ -4,9 +4,8 @@ use Rattle.std.specs.Prelude.{◌||◌, remove}
 use Rattle.std.specs.Bool.{OnTrue, OnFalse}
 use Rattle.std.proofs.lemmas.List.Sums.{sum_by-cons, sum_by-append}
 use Rattle.std.proofs.lemmas.List.Elements.{All-more, All-append}
-use Rattle.std.proofs.lemmas.Bool.{false_from_ne_true}
 use Rattle.graph_core.specs.Side.{has, size, IsOnly}
-use Rattle.graph_core.proofs.SizeLaws.{size-none}
+use Rattle.graph_core.proofs.PutLaws.{size-only}
 use Rattle.graph_core.proofs.Counting.{weight}
 use Rattle.graph_core.proofs.FamilyLaws.{count_by-le}
 use Rattle.certificate_checker.specs.TreeSides.{pair_at, inside, AreUncrossed, AddsOther, IsGrown, IsReach}
@@ -113,14 +112,6 @@ pub grow-done : (before behind : List (ℕ × ℕ × ℕ)) (X Y Z : List Bool) (
 grow-done before behind X Y Z true second a b = tt
 grow-done before behind X Y Z false true a b = tt
 grow-done before behind X Y Z false false a b = All-append (λ p. has Z p.0 ≡ has Z p.1) before behind (subst (λ S. AreUncrossed S before) (sym b.0) a.1) b.1
-
-size-only : (X : List Bool) (v : ℕ) → IsOnly X v → size X ≡ 1
-size-only [] v one = let here = one.here in absurd cc
-size-only (x ∷ X) zero one =
-    omega (arith, sum_by-cons weight x X, ap weight one.here, size-none X (λ k. false_from_ne_true (has X k) (λ more. let e = one.only (suc k) more in absurd (omega arith))))
-size-only (x ∷ X) (suc v) one =
-    let off : x ≡ false = false_from_ne_true x (λ more. let e = one.only 0 more in absurd (omega arith)) in
-    omega (arith, sum_by-cons weight x X, ap weight off, size-only X v (record { here = one.here; only = λ u more. let e = one.only (suc u) more in omega arith }))
 
 pub reach-made : (n : ℕ) (X Z : List Bool) (pairs : List (ℕ × ℕ × ℕ)) (j : ℕ) → length X ≡ n → IsOnly X (pair_at pairs j).0 → IsGrown (remove pairs j) X Z → AreUncrossed Z (remove pairs j) → IsReach n pairs j Z
 reach-made n X Z pairs j long first grown uncrossed = record {

@@ -1,14 +1,12 @@
 -- Texts that are accepted.
-use Rattle.std.specs.Prelude.{◌≡◌, ℕ, true, List}
+use Rattle.std.specs.Prelude.{◌≡◌, ℕ, List}
 use Rattle.graph_core.specs.Graph.{GraphValue}
 use Rattle.problem_defs.specs.Meets.{Meets}
 use Rattle.problem_defs.specs.declared.cert.Cert.{Cert}
 use Rattle.certificate_text.specs.Text.{text}
-use Rattle.certificate_checker.specs.Checked.{is_checked}
 
--- the text of a certificate that meets the graph, of a command that is checked, and nothing after it
+-- the text of a certificate that meets the graph, and nothing after it
 pub record IsAccepted (g : GraphValue) (bytes : List ℕ) : Type 0 where
   pub cert : Cert
   pub meets : Meets g cert
-  pub checked : is_checked cert.ask ≡ true
   pub is : bytes ≡ text g cert

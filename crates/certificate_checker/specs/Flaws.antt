@@ -1,16 +1,14 @@
 -- Texts of certificates that don't meet the graph.
-use Rattle.std.specs.Prelude.{◌≡◌, ℕ, true, List}
+use Rattle.std.specs.Prelude.{◌≡◌, ℕ, List}
 use Rattle.graph_core.specs.Graph.{GraphValue}
 use Rattle.problem_defs.specs.Meets.{HasObject, HasDual, HasValue}
 use Rattle.problem_defs.specs.Shaped.{IsShaped}
 use Rattle.problem_defs.specs.declared.cert.Cert.{Cert}
 use Rattle.certificate_text.specs.Text.{text}
-use Rattle.certificate_checker.specs.Checked.{is_checked}
 
--- the bytes are the text of this certificate, which is shaped and of a command that is checked
+-- the bytes are the text of this certificate, which is shaped
 pub record IsTextOf (g : GraphValue) (cert : Cert) (bytes : List ℕ) : Type 0 where
   pub shaped : IsShaped g cert
-  pub checked : is_checked cert.ask ≡ true
   pub is : bytes ≡ text g cert
 
 -- the object isn't feasible

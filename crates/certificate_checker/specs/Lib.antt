@@ -1,6 +1,6 @@
 pub mod Accepted
-pub mod Checked
 pub mod Copies
+pub mod Dicuts
 pub mod Flaws
 pub mod Heads
 pub mod FirstLack

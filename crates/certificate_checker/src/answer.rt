@@ -4,28 +4,21 @@ ghost use Rattle.problem_defs.specs.Shaped.{IsShaped};
 ghost use Rattle.problem_defs.specs.declared.cert.Body.TheVariants.{Parts};
 ghost use Rattle.certificate_text.specs.BadLine.{whole_lines};
 ghost use Rattle.certificate_checker.specs.Accepted.{IsAccepted};
-ghost use Rattle.certificate_checker.specs.Checked.{is_checked};
 ghost use Rattle.certificate_checker.specs.FirstLack.{FirstLack};
 ghost use Rattle.certificate_checker.specs.Reason.{IsReason};
 
 use crate::cut_tree::judge_cut_tree;
-use crate::decide::judge_answer;
+use crate::decide::Judge;
+use crate::dijoin::judge_no_dijoin;
 use crate::orient::{judge_no_orientation, judge_orientation};
 use crate::rejection::Rejection;
 use certificate_text::{CertRefusal, read_cert};
 use graph_core::{Graph, NumberRows};
 use problem_defs::{
-    ArborescencesAsk, Ask, AugmentArcsAsk, AugmentAsk, Body, Cert, Family, FlowAsk, ForestDual,
-    ForestsAsk, PartsDual, TreesAsk,
+    ArborescencesAsk, Ask, AugmentArcsAsk, AugmentAsk, Body, Cert, DijoinAsk, Family, FlowAsk,
+    ForestDual, ForestsAsk, PartsDual, TreesAsk,
 };
 use std::alloc::Global;
-
-/// Whether the checker knows what a certificate of the command has to show.
-fn is_checked(ask: Ask) -> bool
-    ensures { result ≡ is_checked ask }
-{
-    ask.verb().is_built()
-}
 
 /// How many lines the bytes have, each with its LF.
 fn line_count(bytes: &[u8]) -> usize
@@ -37,45 +30,26 @@ fn line_count(bytes: &[u8]) -> usize
 
 /// Judges a packing or a cover.
 fn judge_packing(
-    alloc: Global,
-    graph: &Graph,
+    on: &Judge<'_>,
     ask: Ask,
     value: u64,
     rows: NumberRows,
     dual: PartsDual,
 ) -> Result<(), Rejection>
-    requires shaped { IsShaped graph.now (record { ask = ask; body = Parts value rows dual }) }
-    requires checked { is_checked ask ≡ true }
-    ensures { FirstLack (claims graph.now ask (Parts value rows dual)) result }
+    requires shaped { IsShaped on.now.graph.now (record { ask = ask; body = Parts value rows dual }) }
+    ensures { FirstLack (claims on.now.graph.now ask (Parts value rows dual)) result }
 {
     match (ask, dual) {
-        (Ask::Arborescences { root }, PartsDual::Cut(side)) => judge_answer(
-            alloc,
-            graph,
-            &ArborescencesAsk { root },
-            value,
-            &rows,
-            &side,
-        ),
-        (Ask::Trees, PartsDual::Partition(classes)) => judge_answer(
-            alloc, graph, &TreesAsk, value, &rows, &classes,
-        ),
-        (Ask::Forests, PartsDual::Induced(side)) => judge_answer(
-            alloc,
-            graph,
-            &ForestsAsk,
-            value,
-            &rows,
-            &ForestDual::Induced(side),
-        ),
-        (Ask::Forests, PartsDual::Nothing) => judge_answer(
-            alloc,
-            graph,
-            &ForestsAsk,
-            value,
-            &rows,
-            &ForestDual::Nothing,
-        ),
+        (Ask::Arborescences { root }, PartsDual::Cut(side)) => {
+            on.answer(&ArborescencesAsk { root }, value, &rows, &side)
+        }
+        (Ask::Trees, PartsDual::Partition(classes)) => on.answer(&TreesAsk, value, &rows, &classes),
+        (Ask::Forests, PartsDual::Induced(side)) => {
+            on.answer(&ForestsAsk, value, &rows, &ForestDual::Induced(side))
+        }
+        (Ask::Forests, PartsDual::Nothing) => {
+            on.answer(&ForestsAsk, value, &rows, &ForestDual::Nothing)
+        }
         _ => unreachable!("the dual belongs to the ask"),
     }
 }
@@ -83,21 +57,14 @@ fn judge_packing(
 /// Judges what a certificate says of the graph.
 fn judge(alloc: Global, graph: &Graph, cert: Cert) -> Result<(), Rejection>
     requires shaped { IsShaped graph.now cert }
-    requires checked { is_checked cert.ask ≡ true }
     ensures { FirstLack (claims graph.now cert.ask cert.body) result }
 {
     let Cert { ask, body } = cert;
+    let on = Judge { alloc, graph };
     match body {
         Body::Tree(pairs) => judge_cut_tree(alloc, graph, &pairs),
         Body::Walks { value, rows, cut } => match ask {
-            Ask::Flow { from, to } => judge_answer(
-                alloc,
-                graph,
-                &FlowAsk { from, to },
-                value,
-                &rows,
-                &cut,
-            ),
+            Ask::Flow { from, to } => on.answer(&FlowAsk { from, to }, value, &rows, &cut),
             _ => unreachable!("the body belongs to the ask"),
         },
         Body::Edges {
@@ -105,14 +72,7 @@ fn judge(alloc: Global, graph: &Graph, cert: Cert) -> Result<(), Rejection>
             pairs,
             sides,
         } => match ask {
-            Ask::Augment { k } => judge_answer(
-                alloc,
-                graph,
-                &AugmentAsk { k },
-                value,
-                &pairs,
-                &sides,
-            ),
+            Ask::Augment { k } => on.answer(&AugmentAsk { k }, value, &pairs, &sides),
             _ => unreachable!("the body belongs to the ask"),
         },
         Body::Arcs {
@@ -121,26 +81,29 @@ fn judge(alloc: Global, graph: &Graph, cert: Cert) -> Result<(), Rejection>
             way,
             sides,
         } => match ask {
-            Ask::AugmentArcs { k } => judge_answer(
-                alloc,
-                graph,
-                &AugmentArcsAsk { k },
-                value,
-                &pairs,
-                &Family { way, sides },
-            ),
+            Ask::AugmentArcs { k } => {
+                on.answer(&AugmentArcsAsk { k }, value, &pairs, &Family { way, sides })
+            }
             _ => unreachable!("the body belongs to the ask"),
         },
-        Body::Parts { value, rows, dual } => judge_packing(alloc, graph, ask, value, rows, dual),
+        Body::Join {
+            value,
+            numbers,
+            sides,
+        } => match ask {
+            Ask::Dijoin => on.answer(&DijoinAsk, value, &numbers, &sides),
+            _ => unreachable!("the body belongs to the ask"),
+        },
+        Body::Parts { value, rows, dual } => judge_packing(&on, ask, value, rows, dual),
         Body::Turned(heads) => match ask {
             Ask::Orient { k } => judge_orientation(alloc, graph, k, &heads),
             _ => unreachable!("the body belongs to the ask"),
         },
         Body::Never(side) => match ask {
             Ask::Orient { k } => judge_no_orientation(graph, k, &side),
+            Ask::Dijoin => judge_no_dijoin(graph, &side),
             _ => unreachable!("the body belongs to the ask"),
         },
-        _ => unreachable!("the body belongs to the ask"),
     }
 }
 
@@ -155,9 +118,6 @@ pub fn check(alloc: Global, graph: &Graph, bytes: &[u8]) -> Result<(), Rejection
         Err(CertRefusal::Bad { line }) => return Err(Rejection::Malformed { line }),
         Err(CertRefusal::NoMemory) => return Err(Rejection::NoMemory),
     };
-    if !is_checked(cert.ask) {
-        return Err(Rejection::Malformed { line: 2 });
-    }
     if count < bytes.len() {
         let line = line_count(&bytes[..count]) + 1;
         return Err(Rejection::Malformed { line });

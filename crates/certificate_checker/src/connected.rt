@@ -30,7 +30,7 @@ impl Copies {
         }
     }
 
-    fn add_lines(&mut self, kind: Kind, lines: &[Line])
+    pub fn add_lines(&mut self, kind: Kind, lines: &[Line])
         requires { All (Fits self.old.n) lines.now }
         ensures n { self.new.n ≡ self.old.n }
         ensures most { self.new.most ≡ self.old.most }
@@ -71,7 +71,7 @@ impl Copies {
     }
 
     /// Whether the limit leaves each proper side.
-    fn is_reached(&self, alloc: Global) -> Result<bool, NoMemory>
+    pub fn is_reached(&self, alloc: Global) -> Result<bool, NoMemory>
         requires { 1 ≤ self.now.n }
         ensures { (f : List Bool → ℕ) → Counts self.now.n self.now.most self.now.table.items f → IfOk result (λ is. IsTrue is ↔ ((X : List Bool) → IsProper self.now.n X → self.now.most ≤ f X)) }
     {

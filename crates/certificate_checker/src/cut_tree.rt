@@ -81,6 +81,20 @@ impl<'a> Cuts<'a> {
         }
         true
     }
+
+    /// Judges the pairs of a cut tree.
+    fn judge(&mut self, pairs: &[(u32, u32, u64)]) -> Result<(), Rejection>
+        requires { AreIn (length self.old.cuts.graph.now.names) pairs.now }
+        ensures { FirstLack (claims self.old.cuts.graph.now asks.CutTree (bodies.Tree pairs.now)) result }
+    {
+        if !self.is_tree(pairs) {
+            return Err(Rejection::Infeasible);
+        }
+        if !self.are_right(pairs) {
+            return Err(Rejection::BadDual);
+        }
+        Ok(())
+    }
 }
 
 /// Judges the pairs of a cut tree. Their order means nothing.
@@ -92,11 +106,5 @@ pub fn judge_cut_tree(alloc: Global, graph: &Graph, pairs: &WeightedPairs) -> Re
     let Ok(mut cuts) = Cuts::new(alloc, graph) else {
         return Err(Rejection::NoMemory);
     };
-    if !cuts.is_tree(pairs.as_slice()) {
-        return Err(Rejection::Infeasible);
-    }
-    if !cuts.are_right(pairs.as_slice()) {
-        return Err(Rejection::BadDual);
-    }
-    Ok(())
+    cuts.judge(pairs.as_slice())
 }

@@ -32,34 +32,42 @@ pub trait Decide: Certify {
         ensures { IsTrue result ↔ Self.dual_feasible self.now graph.now dual.now };
 }
 
-/// Judges a value, an object and a dual.
-pub fn judge_answer<P: Decide>(
-    alloc: Global,
-    graph: &Graph,
-    ask: &P,
-    value: u64,
-    object: &P::Object,
-    dual: &P::Dual,
-) -> Result<(), Rejection>
-    requires k { KIsInRange (P.ask_of ask.now) }
-    requires suits { misfit_of graph.now (P.ask_of ask.now) ≡ None }
-    requires object { P.object_fits graph.now object.now }
-    requires dual { P.dual_fits graph.now dual.now }
-    ensures { FirstLack (certified P.Problem graph.now ask.now value object.now dual.now) result }
-{
-    graph.known();
-    let Ok(feasible) = ask.is_object(alloc, graph, object) else {
-        return Err(Rejection::NoMemory);
-    };
-    if !feasible {
-        return Err(Rejection::Infeasible);
+/// Where answers are judged: the graph, and the memory that it takes.
+#[derive(Drop)]
+pub struct Judge<'a> {
+    pub alloc: Global,
+    pub graph: &'a Graph,
+}
+
+impl Judge<'_> {
+    /// Judges a value, an object and a dual.
+    pub fn answer<P: Decide>(
+        &self,
+        ask: &P,
+        value: u64,
+        object: &P::Object,
+        dual: &P::Dual,
+    ) -> Result<(), Rejection>
+        requires k { KIsInRange (P.ask_of ask.now) }
+        requires suits { misfit_of self.now.graph.now (P.ask_of ask.now) ≡ None }
+        requires object { P.object_fits self.now.graph.now object.now }
+        requires dual { P.dual_fits self.now.graph.now dual.now }
+        ensures { FirstLack (certified P.Problem self.now.graph.now ask.now value object.now dual.now) result }
+    {
+        self.graph.known();
+        let Ok(feasible) = ask.is_object(self.alloc, self.graph, object) else {
+            return Err(Rejection::NoMemory);
+        };
+        if !feasible {
+            return Err(Rejection::Infeasible);
+        }
+        if !ask.is_dual(self.graph, dual) {
+            return Err(Rejection::BadDual);
+        }
+        let count = ask.value(self.graph, object);
+        if value != count || count != ask.bound(self.graph, dual) {
+            return Err(Rejection::Gap);
+        }
+        Ok(())
     }
-    if !ask.is_dual(graph, dual) {
-        return Err(Rejection::BadDual);
-    }
-    let count = ask.value(graph, object);
-    if value != count || count != ask.bound(graph, dual) {
-        return Err(Rejection::Gap);
-    }
-    Ok(())
 }

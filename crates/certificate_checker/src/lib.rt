@@ -8,6 +8,7 @@ mod connected;
 mod copies;
 mod cut_tree;
 mod decide;
+mod dijoin;
 mod families;
 mod flow;
 mod forests;

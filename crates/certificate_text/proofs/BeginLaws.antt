@@ -4,7 +4,7 @@ use Rattle.std.specs.Prelude.{replicate}
 use Rattle.std.proofs.lemmas.Bool.{and_parts}
 use Rattle.std.proofs.lemmas.List.Elements.{All-nil}
 use Rattle.std.specs.Option.{option_and_then}
-use Rattle.graph_core.specs.Graph.{GraphValue, IsGraph, Fits}
+use Rattle.graph_core.specs.Graph.{GraphValue, IsGraph, Fits, no_line}
 use Rattle.graph_core.specs.declared.graph.Kind.{Kind}
 use Rattle.graph_core.specs.declared.graph.Kind.TheVariants.{Undirected, Directed}
 use Rattle.problem_defs.specs.Ask.{misfit_of, KIsInRange}
@@ -23,7 +23,7 @@ use Rattle.certificate_text.specs.declared.row.Slot.{Slot}
 use Rattle.certificate_text.specs.declared.row.Slot.TheVariants.{Must, May}
 use Rattle.certificate_text.specs.Taking.{musts, slots, HasForm, take_line, take_lines}
 use Rattle.certificate_text.specs.Valid.{IsValid, ValidAll}
-use Rattle.certificate_text.specs.Forms.{has_form, no_line}
+use Rattle.certificate_text.specs.Forms.{has_form}
 use Rattle.certificate_text.specs.Lines.{lines, body_lines}
 use Rattle.problem_defs.specs.Shaped.{IsShaped}
 use Rattle.certificate_text.specs.Accepts.{SomeRow, Accepts}

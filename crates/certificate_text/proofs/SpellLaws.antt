@@ -9,7 +9,8 @@ use Rattle.std.proofs.lemmas.List.Elements.{All-head, All-tail}
 use Rattle.graph_core.specs.Graph.{GraphValue, IsGraph}
 use Rattle.graph_core.specs.Name.{IsName}
 use Rattle.problem_defs.specs.Ask.{misfit_of, KIsInRange}
-use Rattle.problem_defs.specs.Suited.{flow_suits, arborescences_suits}
+use Rattle.problem_defs.specs.Arborescences.Cert.{arborescences_suits}
+use Rattle.problem_defs.specs.Flow.Cert.{flow_suits}
 use Rattle.problem_defs.specs.declared.ask.Ask.{Ask}
 use Rattle.problem_defs.specs.declared.ask.Ask.TheVariants as ask
 use Rattle.certificate_text.specs.declared.line.CertLine.{CertLine}

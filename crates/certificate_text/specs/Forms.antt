@@ -1,6 +1,6 @@
 -- Which lines have a form. No public clause cites it.
 use Rattle.std.specs.Prelude.{ℕ, ◌==◌, ◌&&◌, ◌||◌, Bool, true, false, slice_index_or}
-use Rattle.graph_core.specs.Graph.{GraphValue}
+use Rattle.graph_core.specs.Graph.{GraphValue, no_line}
 use Rattle.graph_core.specs.declared.graph.Line.{Line}
 use Rattle.certificate_text.specs.declared.line.CertLine.{CertLine}
 use Rattle.certificate_text.specs.declared.line.CertLine.TheVariants as line
@@ -8,9 +8,6 @@ use Rattle.certificate_text.specs.declared.line.DualKind.{DualKind}
 use Rattle.certificate_text.specs.declared.line.DualKind.TheVariants as kind
 use Rattle.certificate_text.specs.declared.row.Form.{Form}
 use Rattle.certificate_text.specs.declared.row.Form.TheVariants as form
-
-abbrev pub no_line : Line
-no_line = record { tail = 0; head = 0; fixed = false }
 
 abbrev pub joins : Line → ℕ → ℕ → Bool
 joins l u v = ((l.tail == u) && (l.head == v)) || ((l.tail == v) && (l.head == u))

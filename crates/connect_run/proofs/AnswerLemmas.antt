@@ -3,14 +3,15 @@ use Rattle.std.proofs.Common.{true, ◌≡◌, ℕ, ◌+◌, ◌<◌, ◌≤◌,
 use Rattle.std.specs.Io.KnownBytes.{Consumes, IsAtEnd}
 use Rattle.connect_words.specs.declared.command.Command.{Command}
 use Rattle.connect_run.specs.declared.status.Status.{Status}
-use Rattle.connect_run.specs.Built.{Commands, is_solving}
+use Rattle.connect_words.specs.Commands.{Solves}
+use Rattle.connect_run.specs.Reading.{Commands, reads_input}
 use Rattle.connect_run.specs.LargeCase.{limit}
 use Rattle.graph_core.specs.Graph.{GraphValue}
 use Rattle.graph_text.specs.Reading.{IsTextAlone, IsFaultAlone}
 use Rattle.graph_text.specs.declared.refusal.Why.{Why}
-use Rattle.connect_words.specs.declared.command.Command.TheVariants.{Check}
+use Rattle.connect_words.specs.declared.command.Command.TheVariants.{Check, Trial}
 use Rattle.connect_run.specs.FaultCase.{FaultOf, AnswersFault, fault_status, fault_text}
-use Rattle.connect_run.specs.Answer.{AnswersInput, AnswersText, AnswersGraph}
+use Rattle.connect_run.specs.Answer.{AnswersInput, AnswersText, AnswersGraph, AnswersReading, AnswersCommand}
 use Rattle.connect_run.specs.Run.{AnswersLeft, Writes}
 use Rattle.connect_run.specs.Saying.{Says, Replies}
 use Rattle.connect_run.proofs.StatusLemmas.{answer-told, whole-writes}
@@ -21,11 +22,17 @@ says-writes words left old new text status result (input, told, answer) (inl (sa
     subst (Writes words left old new) (sym same) (whole-writes words left old new status (answer-told words input text status answer) (text, (input, told, answer), grows))
 says-writes words left old new text status result answers (inr (same, part)) = subst (Writes words left old new) (sym same) (text, status, answers, part)
 
-pub replies-writes : (words : List (List ℕ)) (command : Command) (left old new : Option (List ℕ)) (input : List ℕ) (result : Status) → Commands words command → length input ≤ limit → IfSome left (λ bytes. input ≡ bytes)
-    → Replies (AnswersInput command words input) old new result → Writes words left old new result
-replies-writes words command left old new input result commands short told (inl (text, status, answers, said)) =
-    says-writes words left old new text status result (input, told, inr (command, commands, inr (short, answers))) said
-replies-writes words command left old new input result commands short told (inr (same, kept)) = subst (Writes words left old new) (sym same) kept
+-- what a command that reads is answered with
+pub reading-answers : (command : Command) → reads_input command ≡ true → (words : List (List ℕ)) (input text : List ℕ) (status : Status) → AnswersReading command words input text status → AnswersCommand command words input text status
+reading-answers (Trial kind nodes number) reads words input text status answers = absurd cc
+reading-answers command reads words input text status answers = answers
+
+-- a reply to a command is written
+pub replies-writes : (words : List (List ℕ)) (command : Command) (left old new : Option (List ℕ)) (input : List ℕ) (result : Status) → Commands words command → IfSome left (λ bytes. input ≡ bytes)
+    → Replies (AnswersCommand command words input) old new result → Writes words left old new result
+replies-writes words command left old new input result commands told (inl (text, status, answers, said)) =
+    says-writes words left old new text status result (input, told, inr (command, commands, answers)) said
+replies-writes words command left old new input result commands told (inr (same, kept)) = subst (Writes words left old new) (sym same) kept
 
 -- what one relation answers, a weaker one does
 pub replies-weaker : (P Q : List ℕ → Status → Type 0) → ((text : List ℕ) (status : Status) → P text status → Q text status) → (old new : Option (List ℕ)) (result : Status) → Replies P old new result → Replies Q old new result
@@ -33,13 +40,13 @@ replies-weaker P Q weaker old new result (inl (text, status, answers, said)) = i
 replies-weaker P Q weaker old new result (inr out) = inr out
 
 -- a graph text and a fault are what the command makes of them
-pub text-of : (command : Command) → is_solving command ≡ true → (words : List (List ℕ)) (input : List ℕ) (g : GraphValue) (text : List ℕ) (status : Status) → IsTextAlone input g → AnswersGraph command words g text status → AnswersText command words input text status
-text-of Check solving words input g text status reads answers = absurd cc
-text-of command solving words input g text status reads answers = (g, reads, answers)
+pub text-of : (command : Command) → Solves command → (words : List (List ℕ)) (input : List ℕ) (g : GraphValue) (text : List ℕ) (status : Status) → IsTextAlone input g → AnswersGraph command words g text status → AnswersText command words input text status
+text-of Check solves words input g text status reads answers = absurd (solves.0 refl)
+text-of command solves words input g text status reads answers = (g, reads, answers)
 
-pub fault-of : (command : Command) → is_solving command ≡ true → (input : List ℕ) (line : ℕ) (why : Why) → IsFaultAlone input line why → FaultOf command input line why
-fault-of Check solving input line why fault = absurd cc
-fault-of command solving input line why fault = fault
+pub fault-of : (command : Command) → Solves command → (input : List ℕ) (line : ℕ) (why : Why) → IsFaultAlone input line why → FaultOf command input line why
+fault-of Check solves input line why fault = absurd (solves.0 refl)
+fault-of command solves input line why fault = fault
 
 -- a fault is answered, by its line and cause under other names
 pub faults : (command : Command) (input text : List ℕ) (status : Status) (line line' : ℕ) (why why' : Why) → line' ≡ line → why' ≡ why → FaultOf command input line why → status ≡ fault_status why' → text ≡ fault_text line' why' → AnswersFault command input text status

@@ -10,15 +10,19 @@ use Rattle.graph_text.specs.declared.refusal.Why.{Why}
 use Rattle.graph_text.proofs.LawLemmas.{one_text, one_fault, not_both, one_text_alone, one_fault_alone, not_both_alone}
 use Rattle.certificate_checker.proofs.OneAnswer.{accepted-alone}
 use Rattle.connect_words.specs.declared.command.Command.{Command}
-use Rattle.connect_words.specs.declared.command.Command.TheVariants.{Check}
+use Rattle.connect_words.specs.declared.command.Command.TheVariants.{Check, Trial}
 use Rattle.connect_run.specs.declared.status.Status.{Status}
-use Rattle.connect_run.specs.declared.status.Status.TheVariants.{Done, Rejected}
+use Rattle.connect_run.specs.declared.status.Status.TheVariants.{Done, Rejected, WriteFault, NoMemory}
 use Rattle.connect_run.specs.FaultCase.{FaultOf, fault_status}
 use Rattle.connect_run.specs.CheckCase.{AnswersAccepted, AnswersRejected, AnswersCheck}
 use Rattle.connect_run.specs.UnsuitedCase.{AnswersUnsuited}
 use Rattle.connect_run.specs.SolvedCase.{AnswersSolved}
-use Rattle.connect_run.specs.Answer.{IsAnswer, AnswersInput, AnswersText, AnswersGraph, AnswersCommand}
-use Rattle.connect_run.specs.Run.{TellsAsk, Writes, Ends, Fails, IsExact, IsComplete, CanBeSolved, CanBeChecked}
+use Rattle.connect_run.specs.TrialCase.{AnswersTrial, trial_graph}
+use Rattle.connect_words.specs.Trials.{trial_ask}
+use Rattle.connect_words.specs.declared.command.TrialKind.{TrialKind}
+use Rattle.connect_run.specs.Saying.{Replies}
+use Rattle.connect_run.specs.Answer.{IsAnswer, AnswersInput, AnswersText, AnswersGraph, AnswersReading, AnswersCommand}
+use Rattle.connect_run.specs.Run.{TellsAsk, TellsTrialOf, Writes, Ends, Fails, IsExact, IsComplete, CanBeSolved, CanBeChecked}
 use Rattle.connect_run.proofs.CommandLemmas.{command-not-bad}
 use Rattle.connect_run.proofs.StatusLemmas.{verdict-tells, one-verdict, writes-whole}
 
@@ -93,11 +97,16 @@ one_input_status command words input text other a b (inl first) (inr second) = a
 one_input_status command words input text other a b (inr first) (inl second) = absurd (fault-or-text command words input text a second.line second.why second.fault first)
 one_input_status command words input text other a b (inr first) (inr second) = one_text_status command words input text other a b first second
 
+one_reading_status : (command : Command) (words : List (List ℕ)) (input text other : List ℕ) (a b : Status) → AnswersReading command words input text a → AnswersReading command words input other b → a ≡ b
+one_reading_status command words input text other a b (inl first) (inl second) = first.status_is ∙ sym second.status_is
+one_reading_status command words input text other a b (inl first) (inr (short, second)) = absurd (omega (arith, first.long, short))
+one_reading_status command words input text other a b (inr (short, first)) (inl second) = absurd (omega (arith, second.long, short))
+one_reading_status command words input text other a b (inr (short, first)) (inr (short', second)) = one_input_status command words input text other a b first second
+
 one_command_status : (command : Command) (words : List (List ℕ)) (input text other : List ℕ) (a b : Status) → AnswersCommand command words input text a → AnswersCommand command words input other b → a ≡ b
-one_command_status command words input text other a b (inl first) (inl second) = first.status_is ∙ sym second.status_is
-one_command_status command words input text other a b (inl first) (inr (short, second)) = absurd (omega (arith, first.long, short))
-one_command_status command words input text other a b (inr (short, first)) (inl second) = absurd (omega (arith, second.long, short))
-one_command_status command words input text other a b (inr (short, first)) (inr (short', second)) = one_input_status command words input text other a b first second
+one_command_status (Trial kind nodes number) words input text other a b first second =
+    solved-once (trial_graph kind nodes number) (trial_ask kind nodes) first.certificate second.certificate a b first.solved second.solved
+one_command_status command words input text other a b first second = one_reading_status command words input text other a b first second
 
 pub one_status : (words : List (List ℕ)) (input text other : List ℕ) (a b : Status) → IsAnswer words input text a → IsAnswer words input other b → a ≡ b
 one_status words input text other a b (inl first) (inl second) = first.status_is ∙ sym second.status_is
@@ -105,7 +114,7 @@ one_status words input text other a b (inl first) (inr (command, commands, secon
 one_status words input text other a b (inr (command, commands, first)) (inl second) = absurd (command-not-bad words second.place second.bad (command, commands))
 one_status words input text other a b (inr (command, commands, first)) (inr (command', commands', second)) =
     one_command_status command words input text other a b first
-    (subst (λ x. AnswersCommand x words input other b) (one_command words command' command commands'.writes commands.writes) second)
+    (subst (λ x. AnswersCommand x words input other b) (one_command words command' command commands' commands) second)
 
 -- a graph whose ask suits it has no answer but a certificate
 solved_graph : (command : Command) (words : List (List ℕ)) (input : List ℕ) (g : GraphValue) (text : List ℕ) (status : Status) (solvable : CanBeSolved words input) → command ≡ solvable.command → IsTextAlone input g → AnswersGraph command words g text status → TellsAsk solvable.g solvable.ask status
@@ -138,15 +147,21 @@ solved-sound Check words input line why solvable same fault =
     cc
 solved-sound command words input line why solvable same fault = not_both_alone input solvable.g line why solvable.reads fault
 
+solved_reading : (command : Command) (words : List (List ℕ)) (input text : List ℕ) (status : Status) (solvable : CanBeSolved words input) → command ≡ solvable.command → AnswersReading command words input text status → TellsAsk solvable.g solvable.ask status
+solved_reading command words input text status solvable same (inl long) = absurd (omega (arith, long.long, solvable.short))
+solved_reading command words input text status solvable same (inr (short, inl fault)) = absurd (solved-sound command words input fault.line fault.why solvable same fault.fault)
+solved_reading command words input text status solvable same (inr (short, inr answers)) = solved_text command words input text status solvable same answers
+
 solved_status : (command : Command) (words : List (List ℕ)) (input text : List ℕ) (status : Status) (solvable : CanBeSolved words input) → command ≡ solvable.command → AnswersCommand command words input text status → TellsAsk solvable.g solvable.ask status
-solved_status command words input text status solvable same (inl long) = absurd (omega (arith, long.long, solvable.short))
-solved_status command words input text status solvable same (inr (short, inl fault)) = absurd (solved-sound command words input fault.line fault.why solvable same fault.fault)
-solved_status command words input text status solvable same (inr (short, inr answers)) = solved_text command words input text status solvable same answers
+solved_status (Trial kind nodes number) words input text status solvable same answers =
+    let asks : asked solvable.g words (Trial kind nodes number) ≡ Some solvable.ask = subst (λ x. asked solvable.g words x ≡ Some solvable.ask) (sym same) solvable.asks in
+    absurd cc
+solved_status command words input text status solvable same answers = solved_reading command words input text status solvable same answers
 
 pub solvable_status : (words : List (List ℕ)) (input text : List ℕ) (status : Status) → (solvable : CanBeSolved words input) → IsAnswer words input text status → TellsAsk solvable.g solvable.ask status
 solvable_status words input text status solvable (inl bad) = absurd (command-not-bad words bad.place bad.bad (solvable.command, solvable.commands))
 solvable_status words input text status solvable (inr (command, commands, answers)) =
-    solved_status command words input text status solvable (one_command words command solvable.command commands.writes solvable.commands.writes) answers
+    solved_status command words input text status solvable (one_command words command solvable.command commands solvable.commands) answers
 
 -- what follows a graph is accepted or rejected
 checked_status : (words : List (List ℕ)) (input text : List ℕ) (status : Status) → CanBeChecked words input → AnswersCommand Check words input text status → (status ≡ Done) ⊎ (status ≡ Rejected)
@@ -158,7 +173,7 @@ checked_status words input text status checkable (inr (short, inr (g, count, rea
 pub checkable_status : (words : List (List ℕ)) (input text : List ℕ) (status : Status) → CanBeChecked words input → IsAnswer words input text status → (status ≡ Done) ⊎ (status ≡ Rejected)
 checkable_status words input text status checkable (inl bad) = absurd (command-not-bad words bad.place bad.bad (Check, checkable.checks))
 checkable_status words input text status checkable (inr (command, commands, answers)) =
-    checked_status words input text status checkable (subst (λ x. AnswersCommand x words input text status) (one_command words command Check commands.writes checkable.checks.writes) answers)
+    checked_status words input text status checkable (subst (λ x. AnswersCommand x words input text status) (one_command words command Check commands checkable.checks) answers)
 
 -- what was written whole fixes the status
 pub exact : (words : List (List ℕ)) (left old new : Option (List ℕ)) (result : Status) → Writes words left old new result → IfSome left (λ input. IsExact words input result)
@@ -195,3 +210,10 @@ checks words bytes old new result writes checkable = elim (writes-whole words (S
 pub complete : (words : List (List ℕ)) (left old new : Option (List ℕ)) (result : Status) → Writes words left old new result → IfSome left (λ input. IsComplete words input result)
 complete words None old new result writes = tt
 complete words (Some bytes) old new result writes = record { solved = solves words bytes old new result writes; checked = checks words bytes old new result writes }
+
+-- a reply to a trial tells whether its graph has an object
+pub trial-tells : (kind : TrialKind) (nodes number : ℕ) (old new : Option (List ℕ)) (result : Status) → Replies (AnswersTrial kind nodes number) old new result → TellsTrialOf kind nodes number result
+trial-tells kind nodes number old new result (inl (text, status, answers, inl (same, grows))) =
+    inl (subst (TellsAsk (trial_graph kind nodes number) (trial_ask kind nodes)) (sym same) (solved-tells (trial_graph kind nodes number) (trial_ask kind nodes) answers.certificate status answers.solved))
+trial-tells kind nodes number old new result (inl (text, status, answers, inr (same, part))) = inr (inl same)
+trial-tells kind nodes number old new result (inr (same, kept)) = inr (inr same)

@@ -2,7 +2,7 @@
 use Rattle.std.proofs.Common.{◌≡◌, ℕ, ◌⊎◌, List, Bool, true, false, Option, refl, sym, ap, ◌∙◌, inl, inr, drop}
 use Rattle.graph_core.specs.Graph.{GraphValue}
 use Rattle.graph_text.specs.declared.refusal.Why.{Why}
-use Rattle.graph_text.specs.declared.refusal.Why.TheVariants.{ManyNodes, ManyLines}
+use Rattle.graph_text.specs.declared.refusal.Why.TheVariants.{ManyNodes, ManyLines, ManyNumbers, ManyCosts}
 use Rattle.problem_defs.specs.Best.{IsBest}
 use Rattle.problem_defs.specs.Impossible.{IsNever}
 use Rattle.problem_defs.proofs.NeverLaw.{object-or-never}
@@ -13,8 +13,8 @@ use Rattle.problem_defs.specs.declared.cert.Body.TheVariants.{Never}
 use Rattle.connect_run.specs.FaultCase.{fault_status}
 use Rattle.connect_run.specs.SolvedCase.{verdict}
 use Rattle.connect_words.specs.declared.command.Command.{Command}
-use Rattle.connect_words.specs.declared.command.Command.TheVariants.{Check}
-use Rattle.connect_run.specs.Answer.{IsAnswer, AnswersText, AnswersGraph}
+use Rattle.connect_words.specs.declared.command.Command.TheVariants.{Check, Trial}
+use Rattle.connect_run.specs.Answer.{IsAnswer, AnswersText, AnswersGraph, AnswersReading, AnswersCommand}
 use Rattle.connect_run.specs.CheckCase.{AnswersCheck}
 use Rattle.connect_run.specs.Run.{TellsAsk, Writes, WritesWhole}
 use Rattle.connect_run.specs.declared.status.Status.{Status}
@@ -30,6 +30,8 @@ is_told status = true
 pub fault-told : (why : Why) → is_told (fault_status why) ≡ true
 fault-told ManyNodes = refl
 fault-told ManyLines = refl
+fault-told ManyNumbers = refl
+fault-told ManyCosts = refl
 fault-told why = refl
 
 verdict-told : (body : Body) → is_told (verdict body) ≡ true
@@ -70,11 +72,18 @@ text-told : (command : Command) (words : List (List ℕ)) (input text : List ℕ
 text-told Check words input text status answers = let (g, count, reads, checked) = answers in check-told g (drop count input) text status checked
 text-told command words input text status answers = let (g, reads, answered) = answers in graph-told command words g text status answered
 
+reading-told : (command : Command) (words : List (List ℕ)) (input text : List ℕ) (status : Status) → AnswersReading command words input text status → is_told status ≡ true
+reading-told command words input text status (inl long) = ap is_told long.status_is
+reading-told command words input text status (inr (short, inl fault)) = ap is_told fault.status_is ∙ fault-told fault.why
+reading-told command words input text status (inr (short, inr answers)) = text-told command words input text status answers
+
+command-told : (command : Command) (words : List (List ℕ)) (input text : List ℕ) (status : Status) → AnswersCommand command words input text status → is_told status ≡ true
+command-told (Trial kind nodes number) words input text status trial = ap is_told trial.solved.status_is ∙ verdict-told trial.solved.cert.body
+command-told command words input text status answers = reading-told command words input text status answers
+
 pub answer-told : (words : List (List ℕ)) (input text : List ℕ) (status : Status) → IsAnswer words input text status → is_told status ≡ true
 answer-told words input text status (inl bad) = ap is_told bad.status_is
-answer-told words input text status (inr (command, commands, inl long)) = ap is_told long.status_is
-answer-told words input text status (inr (command, commands, inr (short, inl fault))) = ap is_told fault.status_is ∙ fault-told fault.why
-answer-told words input text status (inr (command, commands, inr (short, inr answers))) = text-told command words input text status answers
+answer-told words input text status (inr (command, commands, answers)) = command-told command words input text status answers
 
 module _ (words : List (List ℕ)) (left old new : Option (List ℕ)) where
   -- an answer that is written whole is what its status says

@@ -5,14 +5,15 @@ use Rattle.graph_text.specs.Reading.{ReadsText, IsTextAlone}
 use Rattle.problem_defs.specs.declared.ask.Ask.{Ask}
 use Rattle.connect_words.specs.Asks.{asked}
 use Rattle.connect_words.specs.declared.command.Command.{Command}
-use Rattle.connect_words.specs.declared.command.Command.TheVariants.{Check}
-use Rattle.connect_run.specs.Built.{Commands}
+use Rattle.connect_words.specs.declared.command.Command.TheVariants.{Check, Trial}
+use Rattle.connect_run.specs.Reading.{Commands}
 use Rattle.connect_run.specs.WordsCase.{AnswersBadWords}
 use Rattle.connect_run.specs.LargeCase.{AnswersTooLong, limit}
 use Rattle.connect_run.specs.FaultCase.{AnswersFault}
 use Rattle.connect_run.specs.CheckCase.{AnswersCheck}
 use Rattle.connect_run.specs.UnsuitedCase.{AnswersUnsuited}
 use Rattle.connect_run.specs.SolvedCase.{AnswersSolved}
+use Rattle.connect_run.specs.TrialCase.{AnswersTrial}
 use Rattle.connect_run.specs.declared.status.Status.{Status}
 
 -- the answer to a graph: what the command asks doesn't suit it, or is solved
@@ -29,11 +30,16 @@ AnswersText command words input text status = (g : GraphValue) × IsTextAlone in
 abbrev pub AnswersInput : Command → List (List ℕ) → List ℕ → List ℕ → Status → Type 0
 AnswersInput command words input text status = AnswersFault command input text status ⊎ AnswersText command words input text status
 
--- the answer to a command
-abbrev pub AnswersCommand : Command → List (List ℕ) → List ℕ → List ℕ → Status → Type 0
-AnswersCommand command words input text status =
+-- the answer to a command that reads an input
+abbrev pub AnswersReading : Command → List (List ℕ) → List ℕ → List ℕ → Status → Type 0
+AnswersReading command words input text status =
     AnswersTooLong input text status
     ⊎ ((length input ≤ limit) × AnswersInput command words input text status)
+
+-- the answer to a command
+abbrev pub AnswersCommand : Command → List (List ℕ) → List ℕ → List ℕ → Status → Type 0
+AnswersCommand (Trial kind nodes number) words input text status = AnswersTrial kind nodes number text status
+AnswersCommand command words input text status = AnswersReading command words input text status
 
 abbrev pub IsAnswer : List (List ℕ) → List ℕ → List ℕ → Status → Type 0
 IsAnswer words input text status =

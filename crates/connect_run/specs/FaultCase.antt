@@ -2,7 +2,7 @@
 use Rattle.std.specs.Prelude.{ℕ, ◌≡◌, List, ◌++◌, codes, decimal}
 use Rattle.graph_text.specs.Reading.{IsFault, IsFaultAlone}
 use Rattle.graph_text.specs.declared.refusal.Why.{Why}
-use Rattle.graph_text.specs.declared.refusal.Why.TheVariants.{NoHeader, BadLine, WrongKind, BadName, TwiceNode, UnknownNode, Loop, ManyNodes, ManyLines, NoNode, NoEnd}
+use Rattle.graph_text.specs.declared.refusal.Why.TheVariants.{NoHeader, BadLine, WrongKind, BadName, BadNumber, TwiceNode, UnknownNode, Loop, ManyNodes, ManyLines, ManyNumbers, ManyCosts, NoNode, NoEnd}
 use Rattle.connect_words.specs.declared.command.Command.{Command}
 use Rattle.connect_words.specs.declared.command.Command.TheVariants.{Check}
 use Rattle.connect_run.specs.declared.status.Status.{Status}
@@ -13,18 +13,23 @@ why_word NoHeader = codes "header"
 why_word BadLine = codes "line"
 why_word WrongKind = codes "kind"
 why_word BadName = codes "name"
+why_word BadNumber = codes "number"
 why_word TwiceNode = codes "twice"
 why_word UnknownNode = codes "unknown"
 why_word Loop = codes "loop"
 why_word ManyNodes = codes "nodes"
 why_word ManyLines = codes "lines"
+why_word ManyNumbers = codes "numbers"
+why_word ManyCosts = codes "costs"
 why_word NoNode = codes "nonode"
 why_word NoEnd = codes "noend"
 
--- too many nodes or lines
+-- too many nodes or lines, or too much in their numbers or costs
 abbrev pub fault_status : Why → Status
 fault_status ManyNodes = TooLarge
 fault_status ManyLines = TooLarge
+fault_status ManyNumbers = TooLarge
+fault_status ManyCosts = TooLarge
 fault_status other = BadGraph
 
 abbrev pub graph_text : ℕ → Why → List ℕ
@@ -36,6 +41,8 @@ large_text why = codes "large " ++ (why_word why ++ codes "\n")
 abbrev pub fault_text : ℕ → Why → List ℕ
 fault_text line ManyNodes = large_text ManyNodes
 fault_text line ManyLines = large_text ManyLines
+fault_text line ManyNumbers = large_text ManyNumbers
+fault_text line ManyCosts = large_text ManyCosts
 fault_text line why = graph_text line why
 
 -- the first fault of the graph text, counted with what follows the text but for `check`

@@ -5,7 +5,7 @@ use Rattle.connect_run.specs.declared.status.Status.TheVariants.{TooLarge}
 
 -- the most bytes of an input
 abbrev pub limit : ℕ
-limit = 1048576
+limit = 33554432
 
 pub record AnswersTooLong (input text : List ℕ) (status : Status) : Type 0 where
   pub long : limit < length input

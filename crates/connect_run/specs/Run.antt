@@ -6,13 +6,16 @@ use Rattle.cn_edge.specs.Whole.{AppendsPart}
 use Rattle.graph_core.specs.Graph.{GraphValue}
 use Rattle.graph_text.specs.Reading.{ReadsText, IsTextAlone}
 use Rattle.connect_words.specs.Asks.{asked}
+use Rattle.connect_words.specs.Trials.{trial_ask}
 use Rattle.connect_words.specs.declared.command.Command.{Command}
-use Rattle.connect_words.specs.declared.command.Command.TheVariants.{Check}
+use Rattle.connect_words.specs.declared.command.Command.TheVariants.{Check, Trial}
 use Rattle.problem_defs.specs.Ask.{misfit_of}
 use Rattle.problem_defs.specs.Impossible.{IsImpossible}
 use Rattle.problem_defs.specs.declared.ask.Ask.{Ask}
-use Rattle.connect_run.specs.Built.{Commands}
+use Rattle.connect_run.specs.Reading.{Commands}
 use Rattle.connect_run.specs.LargeCase.{limit}
+use Rattle.connect_words.specs.declared.command.TrialKind.{TrialKind}
+use Rattle.connect_run.specs.TrialCase.{trial_graph}
 use Rattle.connect_run.specs.Answer.{IsAnswer}
 use Rattle.connect_run.specs.declared.status.Status.{Status}
 use Rattle.connect_run.specs.declared.status.Status.TheVariants.{Done, Impossible, Rejected, ReadFault, WriteFault, NoMemory}
@@ -88,3 +91,10 @@ TellsAsk g ask status = ((status ≡ Done) × (IsImpossible g ask → ⊥)) ⊎ 
 pub record IsComplete (words : List (List ℕ)) (input : List ℕ) (result : Status) : Type 0 where
   pub solved : (given : CanBeSolved words input) → TellsAsk given.g given.ask result ⊎ Fails result
   pub checked : CanBeChecked words input → Ends result Done ⊎ Ends result Rejected
+
+-- the status of a trial: it tells whether its graph has an object, unless its line isn't written whole or memory ran out
+abbrev pub TellsTrialOf : TrialKind → ℕ → ℕ → Status → Type 0
+TellsTrialOf kind nodes number result = TellsAsk (trial_graph kind nodes number) (trial_ask kind nodes) result ⊎ (result ≡ WriteFault) ⊎ (result ≡ NoMemory)
+
+abbrev pub TellsTrial : List (List ℕ) → Status → Type 0
+TellsTrial words result = (kind : TrialKind) (nodes number : ℕ) → Commands words (Trial kind nodes number) → TellsTrialOf kind nodes number result

@@ -4,7 +4,8 @@ ghost use Rattle.problem_defs.specs.Ask.{misfit_of, KIsInRange};
 ghost use Rattle.problem_defs.specs.declared.ask.Ask.{Ask as AskValue};
 ghost use Rattle.problem_defs.specs.declared.ask.Misfit.{Misfit as MisfitValue};
 ghost use Rattle.connect_words.specs.Asks.{asked};
-ghost use Rattle.connect_run.specs.Built.{Commands, is_solved, is_solving};
+ghost use Rattle.connect_words.specs.Commands.{Solves};
+ghost use Rattle.connect_run.specs.Reading.{Commands, reads_input};
 ghost use Rattle.connect_run.specs.Answer.{AnswersGraph, AnswersInput};
 ghost use Rattle.connect_run.specs.CheckCase.{AnswersCheck};
 ghost use Rattle.connect_run.specs.SolvedCase.{verdict, AnswersSolved};
@@ -51,7 +52,8 @@ pub fn reply<K: Sink>(
     input: &[u8],
     sink: &mut K,
 ) -> Status
-    requires { Commands (map string_bytes words.now) command.now }
+    requires commands { Commands (map string_bytes words.now) command.now }
+    requires reads { reads_input command.now ≡ true }
     ensures replies { Replies (AnswersInput command.now (map string_bytes words.now) input.now) (K.written sink.old) (K.written sink.new) result }
     ensures write { TellsFault (K.faults sink.old) (K.faults sink.new) Status.WriteFault result }
     ensures unwritten { (result ≡ Status.ReadFault) ⊎ (result ≡ Status.NoMemory) → sink.new ≡ sink.old }
@@ -71,7 +73,7 @@ fn reply_to_text<K: Sink>(
     sink: &mut K,
 ) -> Status
     requires commands { Commands (map string_bytes words.now) command.now }
-    requires solving { is_solving command.now ≡ true }
+    requires solves { Solves command.now }
     ensures replies { Replies (AnswersInput command.now (map string_bytes words.now) input.now) (K.written sink.old) (K.written sink.new) result }
     ensures write { TellsFault (K.faults sink.old) (K.faults sink.new) Status.WriteFault result }
     ensures unwritten { (result ≡ Status.ReadFault) ⊎ (result ≡ Status.NoMemory) → sink.new ≡ sink.old }
@@ -127,7 +129,7 @@ fn reply_to_graph<K: Sink>(
     sink: &mut K,
 ) -> Status
     requires commands { Commands (map string_bytes words.now) command.now }
-    requires solving { is_solving command.now ≡ true }
+    requires solves { Solves command.now }
     requires size { IsWithinSize graph.now }
     ensures replies { Replies (AnswersGraph command.now (map string_bytes words.now) graph.now) (K.written sink.old) (K.written sink.new) result }
     ensures write { TellsFault (K.faults sink.old) (K.faults sink.new) Status.WriteFault result }
@@ -149,7 +151,6 @@ fn reply_to_graph<K: Sink>(
 
 fn solved_text(alloc: Global, graph: &Graph, ask: &Ask) -> Result<SolvedText, NoMemory>
     requires size { IsWithinSize graph.now }
-    requires built { is_solved ask.now ≡ true }
     requires k { KIsInRange ask.now }
     requires suits { misfit_of graph.now ask.now ≡ None }
     ensures { IfOk result (λ found. AnswersSolved graph.now ask.now found.text.items found.status) }
@@ -163,7 +164,8 @@ fn solved_text(alloc: Global, graph: &Graph, ask: &Ask) -> Result<SolvedText, No
     })
 }
 
-fn verdict(cert: &Cert) -> Status
+/// The status of a certificate.
+pub fn verdict(cert: &Cert) -> Status
     ensures { result ≡ verdict cert.now.body }
 {
     match cert.body {

@@ -6,6 +6,7 @@ mod lines;
 mod solving;
 mod status;
 mod top;
+mod trial;
 
 pub use solving::solve;
 pub use status::Status;

@@ -4,13 +4,14 @@ ghost use Rattle.connect_run.specs.WordsCase.{words_text};
 ghost use Rattle.connect_run.specs.FaultCase.{why_word, fault_status, fault_text, graph_text, large_text};
 ghost use Rattle.connect_run.specs.CheckCase.{malformed_text, rejected_text};
 ghost use Rattle.connect_run.specs.UnsuitedCase.{misfit_word, unsuited_text};
+ghost use Rattle.connect_run.specs.TrialCase.{value_text, trial_text};
 
 use crate::Status;
 use arrayvec::ArrayVec;
 use certificate_checker::Rejection;
 use graph_text::Why;
 use itoa::Buffer;
-use problem_defs::Misfit;
+use problem_defs::{Body, Misfit};
 
 /// A line that takes no memory.
 pub type ShortLine = ArrayVec<u8, 64>;
@@ -33,7 +34,9 @@ pub fn fault_line(line: usize, why: Why) -> (Status, ShortLine)
     ensures text { result.1.items ≡ fault_text line why }
 {
     match why {
-        Why::ManyNodes | Why::ManyLines => (Status::TooLarge, large_line(why)),
+        Why::ManyNodes | Why::ManyLines | Why::ManyNumbers | Why::ManyCosts => {
+            (Status::TooLarge, large_line(why))
+        }
         _ => (Status::BadGraph, graph_line(line, why)),
     }
 }
@@ -103,6 +106,32 @@ fn malformed_line(line: usize) -> ShortLine
     text
 }
 
+/// What a trial tells of the certificate that was found.
+pub fn trial_line(body: &Body) -> ShortLine
+    ensures { result.items ≡ trial_text body.now }
+{
+    match body {
+        Body::Walks { value, .. } => value_line(*value),
+        Body::Edges { value, .. } => value_line(*value),
+        Body::Arcs { value, .. } => value_line(*value),
+        Body::Parts { value, .. } => value_line(*value),
+        Body::Join { value, .. } => value_line(*value),
+        Body::Never(_) => line_of(b"impossible\n"),
+        Body::Tree(_) | Body::Turned(_) => line_of(b"done\n"),
+    }
+}
+
+fn value_line(value: u64) -> ShortLine
+    ensures { result.items ≡ value_text value }
+{
+    let mut buffer = Buffer::new();
+    let mut text = ShortLine::new();
+    push_part(&mut text, b"value ");
+    push_part(&mut text, buffer.format(value).as_bytes());
+    push_part(&mut text, b"\n");
+    text
+}
+
 fn line_of(part: &[u8]) -> ShortLine
     requires { length part.now ≤ 64 }
     ensures { result.items ≡ part.now }
@@ -120,6 +149,7 @@ fn word_of(why: Why) -> &'static [u8]
         Why::NoHeader => b"header",
         Why::BadLine => b"line",
         Why::BadName => b"name",
+        Why::BadNumber => b"number",
         Why::TwiceNode => b"twice",
         Why::UnknownNode => b"unknown",
         Why::Loop => b"loop",
@@ -128,6 +158,8 @@ fn word_of(why: Why) -> &'static [u8]
         Why::NoEnd => b"noend",
         Why::ManyNodes => b"nodes",
         Why::ManyLines => b"lines",
+        Why::ManyNumbers => b"numbers",
+        Why::ManyCosts => b"costs",
     }
 }
 

@@ -1,26 +1,16 @@
-ghost use Rattle.std.specs.Prelude.{◌≡◌, ◌↔◌, IfOk, None, true};
+ghost use Rattle.std.specs.Prelude.{◌≡◌, ◌↔◌, IfOk, None};
 ghost use Rattle.graph_core.specs.Graph.{IsWithinSize};
 ghost use Rattle.problem_defs.specs.Ask.{misfit_of, KIsInRange};
 ghost use Rattle.problem_defs.specs.Impossible.{IsImpossible, IsNever};
 ghost use Rattle.problem_defs.specs.Meets.{Meets};
-ghost use Rattle.connect_run.specs.Built.{is_solved};
 
-use augment_arcs::augment_arcs;
-use augment_edges::augment;
-use cut_trees::cut_tree;
-use edmonds_branchings::pack_arborescences;
-use flow_cuts::most_walks;
-use forest_cover::cover_forests;
 use graph_core::{Graph, NoMemory};
-use nw_orientation::orient;
-use problem_defs::{Ask, Body, Cert, certificate, orientation_certificate};
+use problem_defs::{Ask, Body, Cert, certificate, dijoin_certificate, orientation_certificate};
 use std::alloc::Global;
-use tree_packing::pack_trees;
 
 // The answer of the ask's solver.
 fn solved(alloc: Global, graph: &Graph, ask: &Ask) -> Result<Cert, NoMemory>
     requires size { IsWithinSize graph.now }
-    requires built { is_solved ask.now ≡ true }
     requires k { KIsInRange ask.now }
     requires suits { misfit_of graph.now ask.now ≡ None }
     ensures ask { IfOk result (λ cert. cert.ask ≡ ask.now) }
@@ -28,28 +18,37 @@ fn solved(alloc: Global, graph: &Graph, ask: &Ask) -> Result<Cert, NoMemory>
 {
     graph.known();
     match *ask {
-        Ask::Flow { from, to } => Ok(certificate(graph, most_walks(alloc, graph, from, to)?)),
+        Ask::Flow { from, to } => Ok(certificate(
+            graph,
+            flow_cuts::most_walks(alloc, graph, from, to)?,
+        )),
         Ask::CutTree => Ok(Cert {
             ask: Ask::CutTree,
-            body: Body::Tree(cut_tree(alloc, graph)?),
+            body: Body::Tree(cut_trees::cut_tree(alloc, graph)?),
         }),
-        Ask::Augment { k } => Ok(certificate(graph, augment(alloc, graph, k)?)),
-        Ask::AugmentArcs { k } => Ok(certificate(graph, augment_arcs(alloc, graph, k)?)),
+        Ask::Augment { k } => Ok(certificate(graph, augment_edges::augment(alloc, graph, k)?)),
+        Ask::AugmentArcs { k } => Ok(certificate(
+            graph,
+            augment_arcs::augment_arcs(alloc, graph, k)?,
+        )),
         Ask::Arborescences { root } => Ok(certificate(
             graph,
-            pack_arborescences(alloc, graph, root)?,
+            edmonds_branchings::pack_arborescences(alloc, graph, root)?,
         )),
-        Ask::Trees => Ok(certificate(graph, pack_trees(alloc, graph)?)),
-        Ask::Forests => Ok(certificate(graph, cover_forests(alloc, graph)?)),
-        Ask::Orient { k } => Ok(orientation_certificate(graph, k, orient(alloc, graph, k)?)),
-        _ => unreachable!("the ask is built"),
+        Ask::Trees => Ok(certificate(graph, tree_packing::pack_trees(alloc, graph)?)),
+        Ask::Forests => Ok(certificate(graph, forest_cover::cover_forests(alloc, graph)?)),
+        Ask::Orient { k } => Ok(orientation_certificate(
+            graph,
+            k,
+            nw_orientation::orient(alloc, graph, k)?,
+        )),
+        Ask::Dijoin => Ok(dijoin_certificate(graph, lucchesi_younger::dijoin(alloc, graph)?)),
     }
 }
 
 /// A best object for the ask with the dual that proves it best, or a side that forbids every object.
 pub fn solve(alloc: Global, graph: &Graph, ask: &Ask) -> Result<Cert, NoMemory>
     requires size { IsWithinSize graph.now }
-    requires built { is_solved ask.now ≡ true }
     requires k { KIsInRange ask.now }
     requires suits { misfit_of graph.now ask.now ≡ None }
     ensures ask { IfOk result (λ cert. cert.ask ≡ ask.now) }

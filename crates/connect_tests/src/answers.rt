@@ -5,7 +5,7 @@ use std::process::Abort;
 use std::test::Fail;
 
 // Words, input, the whole text and the exit number.
-const WHOLE: [(&str, &[u8], &[u8], u8); 45] = [
+const WHOLE: [(&str, &[u8], &[u8], u8); 54] = [
     // No word goes on; the source isn't read.
     ("", b"", b"words 1\n", 3),
     ("flow a", b"", b"words 3\n", 3),
@@ -17,8 +17,8 @@ const WHOLE: [(&str, &[u8], &[u8], u8); 45] = [
     ("orient 33", b"", b"words 2\n", 3),
     ("orient 1 2", b"", b"words 3\n", 3),
     ("trial flow 40 x", b"", b"words 4\n", 3),
-    // Commands that aren't built.
-    ("dijoin", b"", b"words 1\n", 3),
+    ("trial dijoin 1 7", b"", b"words 3\n", 3),
+    ("dijoin x", b"", b"words 2\n", 3),
     ("check x", b"", b"words 2\n", 3),
     (
         "check",
@@ -26,7 +26,6 @@ const WHOLE: [(&str, &[u8], &[u8], u8); 45] = [
         b"graph 3 noend\n",
         4,
     ),
-    ("trial flow 40 7", b"", b"words 1\n", 3),
     // The first fault of the graph text.
     ("forests", b"", b"graph 1 header\n", 4),
     ("forests", b"# nothing\n\n", b"graph 3 header\n", 4),
@@ -78,7 +77,58 @@ const WHOLE: [(&str, &[u8], &[u8], u8); 45] = [
         b"graph 2 name\n",
         4,
     ),
+    (
+        "forests",
+        b"graph undirected\nnode a x\nend\n",
+        b"graph 2 number\n",
+        4,
+    ),
+    (
+        "flow a b",
+        b"graph directed\nnode a\nnode b\narc a b cost 101\nend\n",
+        b"graph 4 number\n",
+        4,
+    ),
+    // The numbers of the nodes add up to 65,536, and to more.
+    (
+        "forests",
+        b"graph undirected\nnode x1 8192\nnode x2 8192\nnode x3 8192\nnode x4 8192\nnode x5 8192\nnode x6 8192\nnode x7 8192\nnode x8 8192\nend\n",
+        b"certificate 1\ncommand forests\nvalue 0\ndual none\nend\n",
+        0,
+    ),
+    (
+        "forests",
+        b"graph undirected\nnode x1 8192\nnode x2 8192\nnode x3 8192\nnode x4 8192\nnode x5 8192\nnode x6 8192\nnode x7 8192\nnode x8 8192\nnode x9 8192\nend\n",
+        b"large numbers\n",
+        5,
+    ),
+    // The costs of arcs count, and a fixed arc is never taken.
+    (
+        "dijoin",
+        b"graph directed\nnode a\nnode b\narc a b cost 0\nend\n",
+        b"certificate 1\ncommand dijoin\nvalue 0\njoin 1\ndual dicuts\nend\n",
+        0,
+    ),
+    (
+        "dijoin",
+        b"graph directed\nnode a\nnode b\narc a b fixed\nend\n",
+        b"certificate 1\ncommand dijoin\nimpossible\ndual dicut\nset b\nend\n",
+        1,
+    ),
+    (
+        "dijoin",
+        b"graph directed\nnode a\nnode b\narc a b fixed\narc a b\nend\n",
+        b"certificate 1\ncommand dijoin\nvalue 1\njoin 2\ndual dicuts\nset b\nend\n",
+        0,
+    ),
+    (
+        "dijoin",
+        b"graph directed\nnode a\nnode b\nnode c\narc a b\narc b c\narc c a\nend\n",
+        b"certificate 1\ncommand dijoin\nvalue 0\njoin\ndual dicuts\nend\n",
+        0,
+    ),
     // The ask doesn't suit the graph.
+    ("dijoin", SQUARE, b"unsuited kind\n", 6),
     ("flow a a", SQUARE, b"unsuited same\n", 6),
     ("flow a q", SQUARE, b"unsuited node\n", 6),
     ("flow q q", SQUARE, b"unsuited node\n", 6),
@@ -226,11 +276,50 @@ fn are_begun(
 
 #[test]
 fn the_limits_of_a_graph_text(rt: HostRuntime) -> Result<(), Fail> {
-    are_begun(&rt, rt.alloc(), &LIMITS)?;
-    let bytes = vec![in rt.alloc(); b'#'; 1_048_577]?;
+    are_begun(&rt, rt.alloc(), &LIMITS)
+}
+
+// 40 arcs may cost 100 each, and 41 may not.
+#[test]
+fn the_limit_of_costs(rt: HostRuntime) -> Result<(), Fail> {
+    let alloc = rt.alloc();
+    let mut text = b"graph directed\nnode a\nnode b\n".to_vec(alloc)?;
+    for _ in 0..40 {
+        text.extend_from_slice(b"arc a b cost 100\n")?;
+    }
+    let mut within = text.clone()?;
+    within.extend_from_slice(b"end\n")?;
+    let (certificate, status) = answer(alloc, "dijoin", &within)?;
+    let begins = certificate.starts_with(b"certificate 1\ncommand dijoin\nvalue 100\njoin ");
+    same(&rt, &(begins, status), &(true, 0), &"dijoin");
+    text.extend_from_slice(b"arc a b cost 100\nend\n")?;
     are_answered(
         &rt,
-        rt.alloc(),
-        &[("forests", bytes.as_slice(), b"large bytes\n", 5)],
+        alloc,
+        &[("dijoin", text.as_slice(), b"large costs\n", 5)],
     )
+}
+
+// A comment of many bytes, of the most, and of one more.
+const COMMENTS: [(usize, &[u8], u8); 3] = [
+    (1_048_577, b"graph 2 header\n", 4),
+    (33_554_432, b"graph 2 header\n", 4),
+    (33_554_433, b"large bytes\n", 5),
+];
+
+fn comments_are_read(
+    rt: &impl Abort,
+    alloc: Global,
+    rows: &[(usize, &[u8], u8)],
+) -> Result<(), Fail> {
+    for (length, text, number) in rows {
+        let bytes = vec![in alloc; b'#'; *length]?;
+        are_answered(rt, alloc, &[("forests", bytes.as_slice(), text, *number)])?;
+    }
+    Ok(())
+}
+
+#[test]
+fn the_limit_of_bytes(rt: HostRuntime) -> Result<(), Fail> {
+    comments_are_read(&rt, rt.alloc(), &COMMENTS)
 }

@@ -1,4 +1,4 @@
-use crate::examples::{ARCS, EDGE, K4, OUT_STAR, PATH, SQUARE, TRIANGLE};
+use crate::examples::{ARCS, EDGE, INTO_ONE, K4, OUT_STAR, PATH, SQUARE, TRIANGLE};
 use crate::run::{answer, joined, same};
 use std::alloc::Global;
 use std::process::Abort;
@@ -7,7 +7,7 @@ use std::test::Fail;
 // A graph, what follows it, the answer and the exit number.
 type Row<'a> = (&'a [u8], &'a [u8], &'a [u8], u8);
 
-const CHECKS: [Row<'static>; 22] = [
+const CHECKS: [Row<'static>; 27] = [
     (
         SQUARE,
         b"certificate 1\ncommand flow a d\nvalue 2\npath 1 2\npath 3 4\ndual cut\nset a\nend\n",
@@ -86,11 +86,42 @@ const CHECKS: [Row<'static>; 22] = [
         b"rejected infeasible\n",
         2,
     ),
-    // A command that isn't checked yet.
+    // No side is closed.
     (
         ARCS,
         b"certificate 1\ncommand dijoin\nvalue 0\njoin\ndual dicuts\nend\n",
-        b"rejected malformed 2\n",
+        b"accepted\n",
+        0,
+    ),
+    // Dijoins of two arcs into one node.
+    (
+        INTO_ONE,
+        b"certificate 1\ncommand dijoin\nvalue 2\njoin 2 1\ndual dicuts\nset y z\nset x y\nend\n",
+        b"accepted\n",
+        0,
+    ),
+    (
+        INTO_ONE,
+        b"certificate 1\ncommand dijoin\nvalue 1\njoin 1\ndual dicuts\nset y\nend\n",
+        b"rejected infeasible\n",
+        2,
+    ),
+    (
+        INTO_ONE,
+        b"certificate 1\ncommand dijoin\nvalue 2\njoin 1 2\ndual dicuts\nset x y\nset y\nend\n",
+        b"rejected dual\n",
+        2,
+    ),
+    (
+        INTO_ONE,
+        b"certificate 1\ncommand dijoin\nvalue 2\njoin 1 2\ndual dicuts\nset x y\nend\n",
+        b"rejected gap\n",
+        2,
+    ),
+    (
+        INTO_ONE,
+        b"certificate 1\ncommand dijoin\nimpossible\ndual dicut\nset y\nend\n",
+        b"rejected dual\n",
         2,
     ),
     // Cut trees of the path.

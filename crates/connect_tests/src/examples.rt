@@ -22,6 +22,9 @@ pub const OUT_STAR: &[u8] = b"graph directed\nnode a\nnode b\nnode c\narc a b\na
 pub const ARCS: &[u8] =
     b"graph directed\nnode a\nnode b\nnode c\narc a b\narc b a\narc b c\narc a c\narc c b\nend\n";
 
+/// Two arcs into one node.
+pub const INTO_ONE: &[u8] = b"graph directed\nnode x\nnode y\nnode z\narc x y\narc z y\nend\n";
+
 /// The complete graph on four nodes.
 pub const K4: &[u8] =
     b"graph undirected\nnode a\nnode b\nnode c\nnode d\nedge a b\nedge a c\nedge a d\nedge b c\nedge b d\nedge c d\nend\n";

@@ -13,3 +13,5 @@ mod run;
 mod solved;
 #[cfg(test)]
 mod streams;
+#[cfg(test)]
+mod trials;

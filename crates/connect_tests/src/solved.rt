@@ -1,4 +1,6 @@
-use crate::examples::{ARCS, BACKBONE, EDGE, K4, ONE_NODE, OUT_STAR, PATH, SQUARE, TRIANGLE};
+use crate::examples::{
+    ARCS, BACKBONE, EDGE, INTO_ONE, K4, ONE_NODE, OUT_STAR, PATH, SQUARE, TRIANGLE,
+};
 use crate::run::{answer, joined, same};
 use std::alloc::Global;
 use std::process::Abort;
@@ -97,12 +99,26 @@ const CONNECTED: [Row<'static>; 17] = [
     ("orient 3", ONE_NODE, b"end\n"),
 ];
 
-// Graphs with a side of too few edges, so that no orientation enters and leaves each side.
-const DENIED: [Row<'static>; 4] = [
+/// Two arcs with costs on a path.
+const COSTLY: &[u8] =
+    b"graph directed\nnode a\nnode b\nnode c\narc a b cost 2\narc b c cost 3\nend\n";
+
+// The sets of a dual may be others.
+const DIJOINS: [Row<'static>; 4] = [
+    ("dijoin", INTO_ONE, b"value 2\njoin 1 2\ndual dicuts\nset "),
+    ("dijoin", COSTLY, b"value 5\njoin 1 2\ndual dicuts\nset "),
+    ("dijoin", OUT_STAR, b"value 2\njoin 1 2\ndual dicuts\nset "),
+    ("dijoin", COMPLETE, b"value 0\njoin\ndual dicuts\nend\n"),
+];
+
+// Graphs with a side of too few edges, so that no orientation enters and leaves each side; and one with a side that no arc
+// enters or leaves.
+const DENIED: [Row<'static>; 5] = [
     ("orient 1", EDGE, b"impossible\ndual cut\nset "),
     ("orient 1", PATH, b"impossible\ndual cut\nset "),
     ("orient 2", K4, b"impossible\ndual cut\nset "),
     ("orient 2", PARALLEL, b"impossible\ndual cut\nset "),
+    ("dijoin", TWO_ALONE, b"impossible\ndual dicut\nset "),
 ];
 
 fn are_accepted(rt: &impl Abort, alloc: Global, rows: &[Row<'_>], number: u8) -> Result<(), Fail> {
@@ -130,7 +146,12 @@ fn augmentations_and_orientations_are_found_and_accepted(rt: HostRuntime) -> Res
 }
 
 #[test]
-fn sides_that_forbid_an_orientation_are_found_and_accepted(rt: HostRuntime) -> Result<(), Fail> {
+fn dijoins_are_found_and_accepted(rt: HostRuntime) -> Result<(), Fail> {
+    are_accepted(&rt, rt.alloc(), &DIJOINS, 0)
+}
+
+#[test]
+fn sides_that_forbid_an_answer_are_found_and_accepted(rt: HostRuntime) -> Result<(), Fail> {
     are_accepted(&rt, rt.alloc(), &DENIED, 1)
 }
 

@@ -11,7 +11,7 @@ const INPUT: &[u8] = b"graph undirected\nnode a\nnode b\nend\n";
 // Words, which reads and which writes fail, the sink's room, the status and what is written.
 type Fault<'a> = (&'a str, &'a [bool], &'a [bool], usize, Status, &'a [u8]);
 
-const FAULTS: [Fault<'static>; 4] = [
+const FAULTS: [Fault<'static>; 5] = [
     ("flow a b", &[false, true], &[], 64, Status::ReadFault, b""),
     (
         "flow a b",
@@ -24,6 +24,14 @@ const FAULTS: [Fault<'static>; 4] = [
     ("flow a b", &[], &[], 10, Status::WriteFault, b"certificat"),
     // A source that would fail isn't asked.
     ("flow a", &[true], &[], 64, Status::BadWords, b"words 3\n"),
+    (
+        "trial trees 2 0",
+        &[true],
+        &[],
+        64,
+        Status::Done,
+        b"value 7\n",
+    ),
 ];
 
 fn are_told(rt: &impl Abort, alloc: Global, rows: &[Fault<'_>]) -> Result<(), Fail> {

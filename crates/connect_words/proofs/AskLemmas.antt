@@ -1,15 +1,6 @@
--- The node of a name, and the verb of what a command asks.
-use Rattle.std.proofs.Common.{◌≡◌, ◌≢◌, ℕ, ◌<◌, Bool, true, false, List, [], length, get_or, All, AllPairs, Some, refl, sym, ap, ◌∙◌, arith}
+-- The node of a name.
+use Rattle.std.proofs.Common.{◌≡◌, ◌≢◌, ℕ, ◌<◌, Bool, true, false, List, [], length, get_or, All, AllPairs, refl, sym, ◌∙◌, arith}
 use Rattle.std.specs.Prelude.{bytes_eq}
-use Rattle.std.specs.Option.{option_map}
-use Rattle.graph_core.specs.Graph.{GraphValue}
-use Rattle.problem_defs.specs.Verbs.{verb_of as verb_of_ask}
-use Rattle.problem_defs.specs.declared.ask.Ask.{Ask}
-use Rattle.problem_defs.specs.declared.verb.Verb.{Verb}
-use Rattle.connect_words.specs.Asks.{asked}
-use Rattle.connect_words.specs.Blanks.{verb_of}
-use Rattle.connect_words.specs.declared.command.Command.{Command}
-use Rattle.connect_words.specs.declared.command.Command.TheVariants.{Check, Trial}
 use Rattle.std.specs.List.{position_or_len}
 use Rattle.std.proofs.lemmas.List.Sums.{position_or_len_is}
 use Rattle.std.proofs.lemmas.Slice.Eq.{bytes_eq-Decides}
@@ -32,15 +23,3 @@ position-absent names name absent =
     position_or_len_is (λ known. bytes_eq known name) names (length names) [] (omega arith)
     (λ k below. differs (get_or names k []) name (absent k [] below))
     (λ below. absurd (omega (arith, below)))
-
--- what a command asks has the command's verb
-pub asks-verb : (graph : GraphValue) (words : List (List ℕ)) (command : Command) (ask : Ask) → asked graph words command ≡ Some ask → verb_of command ≡ Some (verb_of_ask ask)
-asks-verb graph words Check ask is = absurd cc
-asks-verb graph words (Trial kind nodes number) ask is = absurd cc
-asks-verb graph words command ask is = ap (option_map verb_of_ask) is
-
--- a command with a verb asks something
-pub verb-asks : (graph : GraphValue) (words : List (List ℕ)) (command : Command) (verb : Verb) → verb_of command ≡ Some verb → (ask : Ask) × (asked graph words command ≡ Some ask)
-verb-asks graph words Check verb is = absurd cc
-verb-asks graph words (Trial kind nodes number) verb is = absurd cc
-verb-asks graph words command verb is = (_, refl)

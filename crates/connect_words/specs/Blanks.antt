@@ -74,14 +74,6 @@ first_of command.Dijoin = Asks Dijoin
 first_of command.Check = Check
 first_of (command.Trial kind nodes number) = Trial
 
--- the verb of a command that asks something of the graph
-abbrev pub verb_in : FirstWord → Option Verb
-verb_in (Asks verb) = Some verb
-verb_in other = None
-
-abbrev pub verb_of : Command → Option Verb
-verb_of command = verb_in (first_of command)
-
 -- this number, where the word is a decimal
 abbrev pub ReadsNumber : Option (List ℕ) → ℕ → Type 0
 ReadsNumber given read = (number : ℕ) → number < 2 ^ 32 → given ≡ Some (decimal number) → read ≡ number

@@ -1,7 +1,4 @@
-ghost use Rattle.std.specs.Prelude.{◌≡◌, ◌≢◌, IfSome, IfNone, Option};
-ghost use Rattle.connect_words.specs.Blanks.{verb_of};
-
-use problem_defs::Verb;
+ghost use Rattle.std.specs.Prelude.{◌≡◌, ◌≢◌, IfSome, IfNone};
 
 /// The problem that a trial solves on a generated graph.
 #[derive(Clone, Copy, Debug, PartialEq, Eq)]
@@ -67,26 +64,6 @@ impl TrialKind {
             "orient" => Some(TrialKind::Orient),
             "dijoin" => Some(TrialKind::Dijoin),
             _ => None,
-        }
-    }
-}
-
-impl Command {
-    /// The verb of a command that asks something of the graph.
-    pub fn verb(self) -> Option<Verb>
-        ensures { result ≡ verb_of self }
-    {
-        match self {
-            Command::Flow => Some(Verb::Flow),
-            Command::CutTree => Some(Verb::CutTree),
-            Command::Augment { .. } => Some(Verb::Augment),
-            Command::AugmentArcs { .. } => Some(Verb::AugmentArcs),
-            Command::Arborescences => Some(Verb::Arborescences),
-            Command::Trees => Some(Verb::Trees),
-            Command::Forests => Some(Verb::Forests),
-            Command::Orient { .. } => Some(Verb::Orient),
-            Command::Dijoin => Some(Verb::Dijoin),
-            Command::Check | Command::Trial { .. } => None,
         }
     }
 }

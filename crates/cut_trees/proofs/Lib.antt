@@ -1,7 +1,11 @@
 pub mod Branches
 pub mod Gathered
+pub mod LeastCut
 pub mod NextNode
+pub mod PairSides
+pub mod Searched
 pub mod SomeBelow
 pub mod SpanningTree
 pub mod StoredSides
 pub mod Turned
+pub mod WayLaws

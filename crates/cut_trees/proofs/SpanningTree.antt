@@ -1,13 +1,15 @@
 -- A tree that has grown to all nodes is a cut tree.
-use Rattle.std.specs.Prelude.{ℕ, zero, suc, ◌≡◌, ◌≢◌, ◌+◌, ◌<◌, ◌≤◌, Bool, true, false, List, [], ◌∷◌, length, map, remove, sum_by, All}
-use Rattle.std.proofs.Common.{sym, ap, ◌∙◌, arith, inl, inr}
-use Rattle.std.proofs.lemmas.Bool.{cases_eq, cases_order}
-use Rattle.std.proofs.lemmas.List.{length-map, ext_get_or, get_or-map}
-use Rattle.std.proofs.lemmas.List.Sums.{sum_by-cons, get_or-le-sum_by}
+use Rattle.std.specs.Prelude.{ℕ, zero, suc, ◌≡◌, ◌≢◌, ◌<◌, Bool, true, false, List, [], ◌∷◌, length, map, remove, All}
+use Rattle.std.proofs.Common.{ap, ◌∙◌, arith, subst}
+use Rattle.std.proofs.lemmas.List.{length-map, get_or-map}
 use Rattle.graph_core.specs.Side.{has}
 use Rattle.graph_core.specs.Lines.{differ, crosses, degree}
 use Rattle.graph_core.specs.Graph.{GraphValue, Fits}
-use Rattle.graph_core.proofs.Counting.{weight}
+use Rattle.graph_core.specs.Labels.{Adds}
+use Rattle.graph_core.specs.Trees.{IsAcyclic}
+use Rattle.graph_core.proofs.Counting.{count_by-once}
+use Rattle.graph_core.proofs.CutLaws.{differ_same}
+use Rattle.graph_core.proofs.TreeLaws.{removed, one_side}
 use Rattle.graph_core.proofs.FamilyLaws.{size-nonempty, count_by-map}
 use Rattle.graph_core.proofs.SplitLaws.{AreUncrossed, IsSideOf, few_within}
 use Rattle.std.proofs.lemmas.List.Elements.{All-cons}
@@ -44,58 +46,44 @@ sides_of bs p j l =
       },
     )
 
--- two items are no more than all
-two-le-sum_by : (g : Branch → ℕ) (bs : List Branch) (i j : ℕ) → i < j → j < length bs → g (at bs i) + g (at bs j) ≤ sum_by g bs
-two-le-sum_by g [] i j l k = absurd (omega arith)
-two-le-sum_by g (b ∷ bs) i zero l k = absurd (omega arith)
-two-le-sum_by g (b ∷ bs) zero (suc j) l k = omega (arith, sum_by-cons g b bs, get_or-le-sum_by g bs j no_branch (omega arith))
-two-le-sum_by g (b ∷ bs) (suc i) (suc j) l k = omega (arith, sum_by-cons g b bs, two-le-sum_by g bs i j (omega arith) (omega arith))
-
-alike : (a c : Bool) → weight (differ a c) ≡ 0 → a ≡ c
-alike a c h = grind arith
-
 module _ {n : ℕ} {ls : List Line} (bs : List Branch) {rep : ℕ → ℕ} (st : IsGrown n n ls (length bs) (at bs) rep) where
-  -- where one branch alone crosses X, no other does
-  alone : (X : List Bool) → degree X (map line_at bs) ≡ 1 → (i j : ℕ) → i < length bs → j < length bs → i ≢ j → crosses X (line_at (at bs j)) ≡ true → has X (at bs i).first ≡ has X (at bs i).second
-  alone X one i j li lj other cross =
-      let g : Branch → ℕ = λ b. weight (crosses X (line_at b)) in
-      let all = count_by-map (crosses X) line_at bs in
-      let here : g (at bs j) ≡ 1 = ap weight cross in
-      alike (has X (at bs i).first) (has X (at bs i).second)
-      (elim (cases_order i j) [
-        | inl same ↦ absurd (other same)
-        | inr (inl before) ↦ omega (arith, two-le-sum_by g bs i j before lj)
-        | inr (inr behind) ↦ omega (arith, two-le-sum_by g bs j i behind li)
-      ])
+  abbrev lines : List Line
+  lines = map line_at bs
 
-  -- the one side that a branch alone crosses is the stored one: no branch crosses what they differ by
-  the_side : (X : List Bool) (j : ℕ) → j < length bs → length X ≡ n → has X (at bs j).first ≡ true → has X (at bs j).second ≡ false → degree X (map line_at bs) ≡ 1 → X ≡ (at bs j).side
-  the_side X j lj e holds misses one =
+  fit_at : (j : ℕ) → j < length bs → Fits n (line_at (at bs j))
+  fit_at j l = record { tail = st.first_in j l; head = st.second_in j l; apart = λ e. let a = st.inside j l in let c = ap (has (at bs j).side) e ∙ st.outside j l in absurd cc }
+
+  fit : All (Fits n) lines
+  fit = All-branches (Fits n) line_at bs fit_at
+
+  acyclic : IsAcyclic n lines
+  acyclic X some =
+      let parted : AreParted n bs = record { long = st.long; inside = st.inside; outside = st.outside; apart = st.apart } in
+      few_within lines (sides_of bs parted) X some.long (size-nonempty X some.some_in)
+
+  -- its branch alone crosses a stored side
+  stored_alone : (j : ℕ) → j < length bs → degree (at bs j).side lines ≡ 1
+  stored_alone j l =
       let Z = (at bs j).side in
-      let q : ℕ → Bool = λ v. differ (has X v) (has Z v) in
-      let at_first : q (at bs j).first ≡ false = (λ z. differ (holds z) (st.inside j lj z)) in
-      let uncrossed : (i : ℕ) → i < length bs → q (at bs i).first ≡ q (at bs i).second =
-      λ i li.
-      elim (cases_eq i j) [
-        | inl same ↦ rw same (at_first ∙ sym (λ z. differ (misses z) (st.outside j lj z)))
-        | inr other ↦ (λ z. differ (alone X one i j li lj other (λ y. differ (holds y) (misses y)) z) (st.apart i j li lj other z))
-      ] in
-      ext_get_or false X Z (e ∙ sym (st.long j lj))
-      (λ v l. alike (has X v) (has Z v) (ap weight (st.joined q uncrossed v (omega arith) ∙ sym (st.joined q uncrossed (at bs j).first (st.first_in j lj)) ∙ at_first)))
+      count_by-map (crosses Z) line_at bs
+      ∙ count_by-once (λ b. crosses Z (line_at b)) bs j no_branch l (λ z. differ (st.inside j l z) (st.outside j l z)) (λ i li other. differ_same (has Z (at bs i).first) (has Z (at bs i).second) (st.apart i j li l other))
+
+  -- and it crosses no other side alone
+  the_side : (X : List Bool) (j : ℕ) → j < length bs → length X ≡ n → has X (at bs j).first ≡ true → has X (at bs j).second ≡ false → degree X lines ≡ 1 → X ≡ (at bs j).side
+  the_side X j l e holds misses one =
+      let k = line_at (at bs j) in
+      let adds : Adds (remove lines j) k lines = subst (λ h. Adds (remove lines j) h lines) (get_or-map line_at bs j no_branch k l) (removed lines j k (omega (arith, length-map bs line_at))) in
+      one_side lines fit acyclic (omega (arith, length-map bs line_at, st.many)) (remove lines j) k (fit_at j l) adds X (at bs j).side e (st.long j l) holds (st.inside j l) misses (st.outside j l) one (stored_alone j l)
 
   pub grown_tree : (g : GraphValue) → length g.names ≡ n → g.lines ≡ ls → IsCutTree g (map pair_of bs)
-  grown_tree g names lines =
-      let fit : All (Fits n) (map line_at bs) =
-      All-branches (Fits n) line_at bs (λ j l. record { tail = st.first_in j l; head = st.second_in j l; apart = λ e. let a = st.inside j l in let c = ap (has (at bs j).side) e ∙ st.outside j l in absurd cc }) in
-      let parted : AreParted n bs = record { long = st.long; inside = st.inside; outside = st.outside; apart = st.apart } in
-      record {
-        tree = record {
-          fit = rw (tree_lines-branches bs, names) fit;
-          acyclic = rw (tree_lines-branches bs, names) (λ X some. few_within (map line_at bs) (sides_of bs parted) X some.long (size-nonempty X some.some_in));
-          many = rw names (omega (arith, length-map bs pair_of, st.many));
-        };
-        cuts = All-branches (λ p. IsLeastCut g (map pair_of bs) p.0 p.1 p.2) pair_of bs (λ j l. record {
-          weight = λ X e holds misses one. rw (lines, the_side X j l (e ∙ names) holds misses (rw (tree_lines-branches bs) at one)) (st.value j l);
-          least = λ Y e h. rw lines (st.least j l Y (e ∙ names) h);
-        });
-      }
+  grown_tree g names lines_are = record {
+    tree = record {
+      fit = rw (tree_lines-branches bs, names) fit;
+      acyclic = rw (tree_lines-branches bs, names) acyclic;
+      many = rw names (omega (arith, length-map bs pair_of, st.many));
+    };
+    cuts = All-branches (λ p. IsLeastCut g (map pair_of bs) p.0 p.1 p.2) pair_of bs (λ j l. record {
+      weight = λ X e holds misses one. rw (lines_are, the_side X j l (e ∙ names) holds misses (rw (tree_lines-branches bs) at one)) (st.value j l);
+      least = λ Y e h. rw lines_are (st.least j l Y (e ∙ names) h);
+    });
+  }

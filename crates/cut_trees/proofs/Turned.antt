@@ -12,10 +12,7 @@ use Rattle.cut_trees.specs.declared.branch.Branch.{Branch}
 use Rattle.cut_trees.specs.Branch.{turned, turn}
 use Rattle.cut_trees.specs.Grown.{IsGrown}
 use Rattle.cut_trees.specs.Turn.{IsTurn}
-use Rattle.graph_core.proofs.CutLaws.{degree-complement}
-
-differ_sym : (a b : Bool) → differ a b ≡ differ b a
-differ_sym a b = grind arith
+use Rattle.graph_core.proofs.CutLaws.{degree-complement, differ_sym}
 
 turned_has : (f : Bool) (x : Branch) (v : ℕ) → v < length x.side → has (turned f x).side v ≡ differ f (has x.side v)
 turned_has true x v l = has-complement x.side v l

@@ -5,7 +5,7 @@ use Rattle.std.proofs.lemmas.Bool.{cases_eq, cases_lt, false_from_ne_true, eq-eq
 use Rattle.std.proofs.lemmas.List.{length-set, get_or-set_same, get_or-set_other}
 use Rattle.std.proofs.lemmas.Option.{slice_get-get_or}
 use Rattle.std.proofs.lemmas.List.Elements.{All-from_get_or}
-use Rattle.graph_core.specs.Graph.{Fits}
+use Rattle.graph_core.specs.Graph.{Fits, no_line}
 use Rattle.graph_core.specs.Side.{has}
 use Rattle.graph_core.proofs.Counting.{weight}
 use Rattle.graph_core.specs.declared.graph.Line.{Line}
@@ -15,9 +15,6 @@ use Rattle.edmonds_branchings.specs.Network.{no_arc, cap_at, taken, AreEnds, IsL
 use Rattle.edmonds_branchings.specs.Round.{AreApart, IsRound, IsFree, IsEligible}
 use Rattle.edmonds_branchings.proofs.Capacity.{left_within, capacity-taken, tail-taken, head-taken}
 use Rattle.graph_core.proofs.PutLaws.{put_here, put_kept}
-
-no_line : Line
-no_line = record { tail = 0; head = 0; fixed = false }
 
 pub some_line : (ls : List Line) (j : ℕ) → j < length ls → (l : Line) × (slice_get ls j ≡ Some l)
 some_line ls j l = (_, slice_get-get_or ls j no_line l)

@@ -1,6 +1,6 @@
 -- Rows of line numbers that are forests, line by line.
 use Rattle.std.proofs.Common.{not, sum_by, drop, add-one, ℕ, zero, suc, ◌≡◌, ◌+◌, ◌<◌, ◌≤◌, ◌++◌, Bool, true, false, cond, eqb, ◌==◌, ◌||◌, List, [], ◌∷◌, Some, length, take, get_or, slice_get, slice_index, count_by, All, sym, refl, ap, ◌∙◌, subst, arith, ⊎_elim}
-use Rattle.graph_core.specs.Graph.{Fits}
+use Rattle.graph_core.specs.Graph.{Fits, no_line}
 use Rattle.graph_core.specs.Side.{has, size}
 use Rattle.graph_core.specs.Lines.{within}
 use Rattle.graph_core.specs.Labels.{splits, joined, Labels, Adds}
@@ -129,9 +129,6 @@ acyclic-distinct n ls row ends below forest j =
     (λ past. omega (arith, none_past (length ls) j row below past))
     (cases_lt j (length ls))
   where
-    no_line : Line
-    no_line = record { tail = 0; head = 0; fixed = false }
-
     or_right : (a b : Bool) → b ≡ true → (a || b) ≡ true
     or_right true b e = refl
     or_right false b e = e

@@ -1,7 +1,7 @@
 -- Laws of lists by their items: reads, removals, and sums of two items.
 use Rattle.std.specs.Prelude.{ℕ, zero, suc, ◌≡◌, ◌+◌, ◌<◌, ◌≤◌, List, [], ◌∷◌, Some, slice_get, slice_index, length, get_or, sum_by, All}
 use Rattle.std.specs.List.{remove}
-use Rattle.std.proofs.Common.{inl, inr, arith, take, drop}
+use Rattle.std.proofs.Common.{inl, inr, arith, sym, take, drop}
 use Rattle.std.proofs.lemmas.Bool.{cases_lt}
 use Rattle.std.proofs.lemmas.List.{get_or_past}
 use Rattle.std.proofs.lemmas.List.Sums.{sum_by-cons, get_or-le-sum_by}
@@ -18,6 +18,11 @@ counted_below {n} counts v long some =
 module _ {A : Type 0} where
   pub All-remove : (Q : A → Type 0) (xs : List A) (i : ℕ) → All Q xs → All Q (remove xs i)
   All-remove Q xs i h = All-append Q (take i xs) (drop (suc i) xs) (All-take Q i xs h) (All-drop Q (suc i) xs h)
+
+  -- the first item of a list, and the rest of it
+  pub first-rest : (xs ys : List A) (x : A) → slice_get xs 0 ≡ Some x → ys ≡ remove xs 0 → xs ≡ x ∷ ys
+  first-rest [] ys x is rest = absurd cc
+  first-rest (y ∷ xs) ys x is rest = let same : y ≡ x = cc in (λ t. same t ∷ sym rest t)
 
   -- two items are no more than all
   pub two-le-sum_by : (g : A → ℕ) (xs : List A) (i j : ℕ) (d : A) → i < j → j < length xs → g (get_or xs i d) + g (get_or xs j d) ≤ sum_by g xs

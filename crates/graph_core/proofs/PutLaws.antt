@@ -1,11 +1,12 @@
--- A side with one node more, and sides that lack nodes.
+-- A side with one node, with one more, and sides that lack nodes.
 use Rattle.std.specs.Prelude.{ℕ, zero, suc, ◌≡◌, ◌+◌, ◌<◌, Bool, true, false, List, [], ◌∷◌, length, slice_set, refl}
 use Rattle.std.proofs.Common.{ap, ◌∙◌, inl, inr, arith}
-use Rattle.std.proofs.lemmas.Bool.{cases_eq}
+use Rattle.std.proofs.lemmas.Bool.{cases_eq, false_from_ne_true}
 use Rattle.std.proofs.lemmas.List.{get_or-set_same, get_or-set_other}
 use Rattle.std.proofs.lemmas.List.Sums.{sum_by-cons, count_by-le-length}
-use Rattle.graph_core.specs.Side.{has, size}
+use Rattle.graph_core.specs.Side.{has, size, IsOnly}
 use Rattle.graph_core.proofs.Counting.{weight}
+use Rattle.graph_core.proofs.SizeLaws.{size-none}
 use Rattle.graph_core.proofs.SideLaws.{has-below}
 
 size-cons : (x : Bool) (X : List Bool) → size (x ∷ X) ≡ weight x + size X
@@ -16,6 +17,14 @@ pub size-put : (X : List Bool) (v : ℕ) → v < length X → has X v ≡ false 
 size-put [] v l out = absurd (omega arith)
 size-put (x ∷ X) zero l out = omega (arith, size-cons true X, size-cons x X, ap weight out)
 size-put (x ∷ X) (suc v) l out = omega (arith, size-cons x (slice_set X v true), size-cons x X, size-put X v (omega arith) out)
+
+pub size-only : (X : List Bool) (v : ℕ) → IsOnly X v → size X ≡ 1
+size-only [] v one = let here = one.here in absurd cc
+size-only (x ∷ X) zero one =
+    omega (arith, size-cons x X, ap weight one.here, size-none X (λ k. false_from_ne_true (has X k) (λ more. let e = one.only (suc k) more in absurd (omega arith))))
+size-only (x ∷ X) (suc v) one =
+    let off : x ≡ false = false_from_ne_true x (λ more. let e = one.only 0 more in absurd (omega arith)) in
+    omega (arith, size-cons x X, ap weight off, size-only X v (record { here = one.here; only = λ u more. let e = one.only (suc u) more in omega arith }))
 
 -- a side that lacks nodes lacks one
 pub some_missing : (X : List Bool) → size X < length X → (v : ℕ) × (v < length X) × (has X v ≡ false)

@@ -1,6 +1,6 @@
 -- Counts over lists, and sizes of sides.
-use Rattle.std.proofs.Common.{ℕ, zero, suc, ◌≡◌, ◌+◌, ◌<◌, ◌≤◌, Bool, true, false, cond, ◌⊎◌, inl, inr, List, [], ◌∷◌, length, count_by, replicate, refl, ap, sym, ◌∙◌, arith, ⊎_elim}
-use Rattle.std.specs.List.{range_with_len, sum_by}
+use Rattle.std.proofs.Common.{ℕ, zero, suc, ◌≡◌, ◌+◌, ◌<◌, ◌≤◌, Bool, true, false, ◌&&◌, cond, ◌⊎◌, inl, inr, List, [], ◌∷◌, length, count_by, replicate, refl, ap, sym, ◌∙◌, arith, ⊎_elim, zero-add}
+use Rattle.std.specs.List.{filter, range_with_len, sum_by}
 use Rattle.std.proofs.lemmas.Bool.{cases_eq}
 use Rattle.std.proofs.lemmas.List.Sums.{sum_by-cons}
 use Rattle.graph_core.proofs.Counting.{weight}
@@ -31,6 +31,16 @@ module _ {X : Type 0} where
   pub count-none : (p : X → Bool) → ((x : X) → p x ≡ false) → (xs : List X) → count_by p xs ≡ 0
   count-none p h [] = refl
   count-none p h (x ∷ xs) = omega (arith, count-cons p x xs, weight_false (p x) (h x), count-none p h xs)
+
+  -- a count over a filtered list
+  pub count-filter : (p f : X → Bool) (xs : List X) → count_by p (filter f xs) ≡ count_by (λ x. f x && p x) xs
+  count-filter p f [] = refl
+  count-filter p f (x ∷ xs) =
+      rw (count-cons (λ y. f y && p y) x xs)
+      (elim (f x) as (λ b. count_by p (cond b (x ∷ filter f xs) (filter f xs)) ≡ weight (b && p x) + count_by (λ y. f y && p y) xs) [
+        | true ↦ count-cons p x (filter f xs) ∙ ap (λ k. weight (p x) + k) (count-filter p f xs)
+        | false ↦ count-filter p f xs ∙ sym (zero-add (count_by (λ y. f y && p y) xs))
+      ])
 
   pub sum-le : (f g : X → ℕ) → ((x : X) → f x ≤ g x) → (xs : List X) → sum_by f xs ≤ sum_by g xs
   sum-le f g h [] = omega arith

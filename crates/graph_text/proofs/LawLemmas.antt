@@ -30,7 +30,7 @@ one_line : (names : List (List ℕ)) (l m : Line) → AllPairs (λ a b. a ≢ b)
 one_line names l m distinct fits fits' same =
     let tail = one_place names l.tail m.tail distinct fits.tail fits'.tail (ap (λ e. e.tail) same) in
     let head = one_place names l.head m.head distinct fits.head fits'.head (ap (λ e. e.head) same) in
-    λ i. record { tail = tail i; head = head i; fixed = (same i).fixed }
+    λ i. record { tail = tail i; head = head i; fixed = (same i).fixed; cost = (same i).cost }
 
 one_list : (names : List (List ℕ)) (ls ms : List Line) → AllPairs (λ a b. a ≢ b) names → All (Fits (length names)) ls → All (Fits (length names)) ms → map (ends_in names) ls ≡ map (ends_in names) ms → ls ≡ ms
 one_list names [] [] distinct fits fits' same = refl
@@ -51,7 +51,8 @@ one_graph content g h a b =
     let fits : All (Fits (length g.names)) h.lines = subst (λ ns. All (Fits (length ns)) h.lines) (sym names) b.graph.makes.ends in
     let ends : map (ends_in g.names) g.lines ≡ map (ends_in g.names) h.lines = sym a.ends ∙ b.ends ∙ ap (λ ns. map (ends_in ns) h.lines) (sym names) in
     let lines = one_list g.names g.lines h.lines a.graph.makes.distinct a.graph.makes.ends fits ends in
-    λ i. record { kind = kind i; names = names i; lines = lines i }
+    let numbers : g.numbers ≡ h.numbers = sym a.numbers ∙ b.numbers in
+    λ i. record { kind = kind i; names = names i; lines = lines i; numbers = numbers i }
 
 -- ---- one end or one fault
 

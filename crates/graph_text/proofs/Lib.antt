@@ -2,6 +2,7 @@
 pub mod ListLemmas
 pub mod LinesLemmas
 pub mod NamesLemmas
+pub mod NumberLemmas
 pub mod DraftLemmas
 pub mod CutLemmas
 pub mod TextLemmas

@@ -38,7 +38,7 @@ ends_in-more names more (line ∷ lines) within =
     let first = All-head (Fits (length names)) line lines within in
     let tail : get_or (names ++ more) line.tail [] ≡ get_or names line.tail [] = get_or_append_left names more [] line.tail first.tail in
     let head : get_or (names ++ more) line.head [] ≡ get_or names line.head [] = get_or_append_left names more [] line.head first.head in
-    λ i. record { tail = tail i; head = head i; fixed = line.fixed } ∷ ends_in-more names more lines (All-tail (Fits (length names)) line lines within) i
+    λ i. record { tail = tail i; head = head i; fixed = line.fixed; cost = line.cost } ∷ ends_in-more names more lines (All-tail (Fits (length names)) line lines within) i
 
 -- the name at the place where it was found
 pub name_at : (names : List (List ℕ)) (name : List ℕ) (i : ℕ) → position (bytes_eq name) names ≡ Some i → get_or names i [] ≡ name

@@ -27,7 +27,7 @@ pub record Reading (bytes rest : List ℕ) (line : ℕ) (content : Content) : Ty
   pub before : (at : ℕ) → at < line → GoesOn (sayings (take count bytes)) at
   pub few : line + length rest ≤ length bytes
 
-pub reading_first : (bytes : List ℕ) → Reading bytes bytes 0 (record { kind = None; names = []; ends = [] })
+pub reading_first : (bytes : List ℕ) → Reading bytes bytes 0 (record { kind = None; names = []; numbers = []; ends = [] })
 reading_first bytes = record {
   count = 0;
   place = omega arith;

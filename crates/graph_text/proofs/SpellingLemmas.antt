@@ -1,10 +1,14 @@
 -- What the lines of a plain text say.
-use Rattle.std.proofs.Common.{◌≡◌, ℕ, ◌-◌, ◌<◌, Bool, true, false, ◌&&◌, ◌||◌, List, [], ◌∷◌, ◌++◌, length, get_or, map, refl, sym, ap, ◌∙◌, nat_lt, eq-eqb, lt-ltb, true≢false, append_assoc, length-append, All, arith}
+use Rattle.std.proofs.Common.{◌≡◌, ℕ, ◌-◌, ◌^◌, ◌<◌, ◌≤◌, Bool, true, false, ◌&&◌, ◌||◌, List, [], ◌∷◌, ◌++◌, length, get_or, map, refl, sym, ap, ◌∙◌, nat_lt, eq-eqb, lt-ltb, true≢false, append_assoc, length-append, All, arith}
 use Rattle.std.specs.Prelude.{codes, filter, ◌==◌}
+use Rattle.std.specs.Char.{is_ascii_digit}
+use Rattle.std.specs.Fmt.{decimal}
 use Rattle.std.specs.List.{flat_map, slice_split, onto_first}
 use Rattle.std.specs.Io.BufRead.{strip_last, ends_with_byte}
 use Rattle.std.proofs.Math.Bool.{and-false}
 use Rattle.std.proofs.lemmas.Bool.{eqb-true, cond-true, cond-false}
+use Rattle.std.proofs.lemmas.Bool.Decides.{nat_tests}
+use Rattle.std.proofs.lemmas.Fmt.{decimal_digit, decimal_is_IsNumeral}
 use Rattle.std.proofs.lemmas.List.{take_at}
 use Rattle.std.proofs.lemmas.List.Elements.{All-head, All-tail, All-append, All-cons, All-nil}
 use Rattle.std.proofs.lemmas.List.Splits.{slice_split_none, slice_split_at}
@@ -16,10 +20,11 @@ use Rattle.graph_text.specs.Lines.{lines, words, is_blank, is_line_feed, is_some
 use Rattle.graph_text.specs.Said.{Said, Header, Node, Edge, Arc, End, says, line_says}
 use Rattle.graph_text.specs.Before.{Ends}
 use Rattle.graph_text.specs.Cause.{is_name}
-use Rattle.graph_text.specs.PlainText.{header_line, node_line, ends_line}
+use Rattle.graph_text.specs.PlainText.{header_line, node_line, cost_end, ends_line}
 use Rattle.graph_text.specs.Text.{sayings}
 use Rattle.graph_text.proofs.DraftLemmas.{is_name-Decides}
 use Rattle.graph_text.proofs.LinesLemmas.{some_first}
+use Rattle.graph_text.proofs.NumberLemmas.{decimal-digits}
 
 -- ---- lines
 
@@ -80,6 +85,15 @@ IsWord-name name named = record {
 literal : (word : List ℕ) → is_name word ≡ true → IsWord word
 literal word named = IsWord-name word ((is_name-Decides word).0 named)
 
+digit_plain : (c : ℕ) → is_ascii_digit c ≡ true → IsPlain c
+digit_plain c e = record { no_blank = grind (arith, nat_tests); no_line_feed = grind (arith, nat_tests); no_return = grind (arith, nat_tests) }
+
+IsWord-decimal : (n : ℕ) → n < 2 ^ 64 → IsWord (decimal n)
+IsWord-decimal n fit = record {
+  some = (decimal_is_IsNumeral n fit).0.0;
+  plain = λ k d l. digit_plain (get_or (decimal n) k d) (decimal-digits n fit k d l);
+}
+
 -- words with one blank between them
 pub joined : List (List ℕ) → List ℕ
 joined [] = []
@@ -125,70 +139,125 @@ two a b p q = All-cons IsWord a (b ∷ []) p (All-cons IsWord b [] q (All-nil Is
 three : (a b c : List ℕ) → IsWord a → IsWord b → IsWord c → AreWords (a ∷ b ∷ c ∷ [])
 three a b c p q r = All-cons IsWord a (b ∷ c ∷ []) p (two b c q r)
 
+four : (a b c d : List ℕ) → IsWord a → IsWord b → IsWord c → IsWord d → AreWords (a ∷ b ∷ c ∷ d ∷ [])
+four a b c d p q r s = All-cons IsWord a (b ∷ c ∷ d ∷ []) p (three b c d q r s)
+
+sayings-two : (a b rest : List ℕ) → IsWord a → IsWord b → sayings (((a ++ 32 ∷ []) ++ (b ++ 10 ∷ [])) ++ rest) ≡ says (a ∷ b ∷ []) ∷ sayings rest
+unfolding joined
+sayings-two a b rest p q =
+    let text : ((a ++ 32 ∷ []) ++ (b ++ 10 ∷ [])) ++ rest ≡ joined (a ∷ b ∷ []) ++ 10 ∷ rest = simp append_assoc in
+    ap sayings text ∙ sayings-joined (a ∷ b ∷ []) rest (two a b p q)
+
+sayings-three : (a b c rest : List ℕ) → IsWord a → IsWord b → IsWord c → sayings (((a ++ 32 ∷ []) ++ (b ++ 32 ∷ (c ++ 10 ∷ []))) ++ rest) ≡ says (a ∷ b ∷ c ∷ []) ∷ sayings rest
+unfolding joined
+sayings-three a b c rest p q r =
+    let text : ((a ++ 32 ∷ []) ++ (b ++ 32 ∷ (c ++ 10 ∷ []))) ++ rest ≡ joined (a ∷ b ∷ c ∷ []) ++ 10 ∷ rest = simp append_assoc in
+    ap sayings text ∙ sayings-joined (a ∷ b ∷ c ∷ []) rest (three a b c p q r)
+
+sayings-four : (a b c d rest : List ℕ) → IsWord a → IsWord b → IsWord c → IsWord d → sayings (((a ++ 32 ∷ []) ++ (b ++ 32 ∷ (c ++ 32 ∷ (d ++ 10 ∷ [])))) ++ rest) ≡ says (a ∷ b ∷ c ∷ d ∷ []) ∷ sayings rest
+unfolding joined
+sayings-four a b c d rest p q r s =
+    let text : ((a ++ 32 ∷ []) ++ (b ++ 32 ∷ (c ++ 32 ∷ (d ++ 10 ∷ [])))) ++ rest ≡ joined (a ∷ b ∷ c ∷ d ∷ []) ++ 10 ∷ rest = simp append_assoc in
+    ap sayings text ∙ sayings-joined (a ∷ b ∷ c ∷ d ∷ []) rest (four a b c d p q r s)
+
+sayings-five : (a b c d e rest : List ℕ) → IsWord a → IsWord b → IsWord c → IsWord d → IsWord e
+    → sayings (((a ++ 32 ∷ []) ++ (b ++ 32 ∷ (c ++ 32 ∷ (d ++ 32 ∷ (e ++ 10 ∷ []))))) ++ rest) ≡ says (a ∷ b ∷ c ∷ d ∷ e ∷ []) ∷ sayings rest
+unfolding joined
+sayings-five a b c d e rest p q r s t =
+    let text : ((a ++ 32 ∷ []) ++ (b ++ 32 ∷ (c ++ 32 ∷ (d ++ 32 ∷ (e ++ 10 ∷ []))))) ++ rest ≡ joined (a ∷ b ∷ c ∷ d ∷ e ∷ []) ++ 10 ∷ rest = simp append_assoc in
+    ap sayings text ∙ sayings-joined (a ∷ b ∷ c ∷ d ∷ e ∷ []) rest (All-cons IsWord a (b ∷ c ∷ d ∷ e ∷ []) p (four b c d e q r s t))
+
 -- ---- the lines of the plain text
 
 sayings-header : (kind : Kind) (rest : List ℕ) → sayings (header_line kind ++ rest) ≡ Header kind ∷ sayings rest
 sayings-header Undirected rest = refl
 sayings-header Directed rest = refl
 
-sayings-node : (name rest : List ℕ) → IsName name → sayings (node_line name ++ rest) ≡ Node name ∷ sayings rest
-unfolding joined
-sayings-node name rest named =
-    let text : node_line name ++ rest ≡ joined (codes "node" ∷ name ∷ []) ++ 10 ∷ rest = ap (λ t. codes "node " ++ t) (append_assoc name (10 ∷ []) rest) in
-    ap sayings text ∙ sayings-joined (codes "node" ∷ name ∷ []) rest (two (codes "node") name (literal (codes "node") refl) (IsWord-name name named))
+zero_word : decimal 0 ≡ codes "0"
+zero_word = decimal_digit 0 (omega arith)
+
+one_word : (n : ℕ) → n ≡ 1 → decimal n ≡ codes "1"
+one_word n one = ap decimal one ∙ decimal_digit 1 (omega arith)
+
+-- what the line of a node says
+abbrev pub declares : List ℕ × ℕ → Said
+declares node = Node node.0 (decimal node.1)
+
+sayings-node : (name : List ℕ) (number : ℕ) (rest : List ℕ) → IsName name → number < 2 ^ 64 → sayings (node_line (name, number) ++ rest) ≡ Node name (decimal number) ∷ sayings rest
+sayings-node name number rest named fit = by (number == 0) refl
+  where
+    by : (b : Bool) → (number == 0) ≡ b → sayings (node_line (name, number) ++ rest) ≡ Node name (decimal number) ∷ sayings rest
+    by true e =
+        let none = eqb-true number 0 e in
+        ap (λ n. sayings (node_line (name, n) ++ rest)) none ∙ sayings-two (codes "node") name rest (literal (codes "node") refl) (IsWord-name name named) ∙ ap (λ w. Node name w ∷ sayings rest) (sym (ap decimal none ∙ zero_word))
+    by false e =
+        ap (λ t. sayings ((codes "node " ++ (name ++ t)) ++ rest)) (cond-false (number == 0) (codes "\n") (codes " " ++ (decimal number ++ codes "\n")) e)
+        ∙ sayings-three (codes "node") name (decimal number) rest (literal (codes "node") refl) (IsWord-name name named) (IsWord-decimal number fit)
 
 -- what the line of an edge or an arc says
 abbrev pub joins : Kind → Ends → Said
 joins Undirected ends = Edge ends.tail ends.head
-joins Directed ends = Arc ends.tail ends.head ends.fixed
+joins Directed ends = Arc ends.tail ends.head ends.fixed (decimal ends.cost)
 
--- Two names, and an edge isn't fixed.
+-- Two names, and a cost other than 1 for an arc alone that isn't fixed.
 pub record IsNamed (kind : Kind) (ends : Ends) : Type 0 where
   pub tail : IsName ends.tail
   pub head : IsName ends.head
   pub free : kind ≡ Undirected → ends.fixed ≡ false
+  pub most : ends.cost ≤ 100
+  pub edge_cost : kind ≡ Undirected → ends.cost ≡ 1
+  pub fixed_cost : ends.fixed ≡ true → ends.cost ≡ 1
 
-sayings-three : (keyword tail head rest : List ℕ) → IsWord keyword → IsName tail → IsName head
-    → sayings (((keyword ++ 32 ∷ []) ++ (tail ++ (32 ∷ (head ++ 10 ∷ [])))) ++ rest) ≡ says (keyword ∷ tail ∷ head ∷ []) ∷ sayings rest
-unfolding joined
-sayings-three keyword tail head rest word p q =
-    let text : ((keyword ++ 32 ∷ []) ++ (tail ++ (32 ∷ (head ++ 10 ∷ [])))) ++ rest ≡ joined (keyword ∷ tail ∷ head ∷ []) ++ 10 ∷ rest = simp append_assoc in
-    ap sayings text ∙ sayings-joined (keyword ∷ tail ∷ head ∷ []) rest (three keyword tail head word (IsWord-name tail p) (IsWord-name head q))
+sayings-arc : (tail head : List ℕ) (cost : ℕ) (rest : List ℕ) → IsName tail → IsName head → cost < 2 ^ 64
+    → sayings ((codes "arc " ++ (tail ++ (codes " " ++ (head ++ cost_end cost)))) ++ rest) ≡ Arc tail head false (decimal cost) ∷ sayings rest
+sayings-arc tail head cost rest p q fit = by (cost == 1) refl
+  where
+    by : (b : Bool) → (cost == 1) ≡ b → sayings ((codes "arc " ++ (tail ++ (codes " " ++ (head ++ cost_end cost)))) ++ rest) ≡ Arc tail head false (decimal cost) ∷ sayings rest
+    by true e =
+        let one = eqb-true cost 1 e in
+        ap (λ n. sayings ((codes "arc " ++ (tail ++ (codes " " ++ (head ++ cost_end n)))) ++ rest)) one
+        ∙ sayings-three (codes "arc") tail head rest (literal (codes "arc") refl) (IsWord-name tail p) (IsWord-name head q)
+        ∙ ap (λ w. Arc tail head false w ∷ sayings rest) (sym (one_word cost one))
+    by false e =
+        ap (λ t. sayings ((codes "arc " ++ (tail ++ (codes " " ++ (head ++ t)))) ++ rest)) (cond-false (cost == 1) (codes "\n") (codes " cost " ++ (decimal cost ++ codes "\n")) e)
+        ∙ sayings-five (codes "arc") tail head (codes "cost") (decimal cost) rest (literal (codes "arc") refl) (IsWord-name tail p) (IsWord-name head q) (literal (codes "cost") refl) (IsWord-decimal cost fit)
 
-sayings-four : (keyword tail head last rest : List ℕ) → IsWord keyword → IsName tail → IsName head → IsWord last
-    → sayings (((keyword ++ 32 ∷ []) ++ (tail ++ (32 ∷ (head ++ 32 ∷ (last ++ 10 ∷ []))))) ++ rest) ≡ says (keyword ∷ tail ∷ head ∷ last ∷ []) ∷ sayings rest
-unfolding joined
-sayings-four keyword tail head last rest word p q word' =
-    let text : ((keyword ++ 32 ∷ []) ++ (tail ++ (32 ∷ (head ++ 32 ∷ (last ++ 10 ∷ []))))) ++ rest ≡ joined (keyword ∷ tail ∷ head ∷ last ∷ []) ++ 10 ∷ rest = simp append_assoc in
-    ap sayings text
-    ∙ sayings-joined (keyword ∷ tail ∷ head ∷ last ∷ []) rest (All-cons IsWord keyword (tail ∷ head ∷ last ∷ []) word (three tail head last (IsWord-name tail p) (IsWord-name head q) word'))
+sayings-ends : (kind : Kind) (tail head : List ℕ) (fixed : Bool) (cost : ℕ) (rest : List ℕ) → IsNamed kind (record { tail = tail; head = head; fixed = fixed; cost = cost })
+    → sayings (ends_line kind (record { tail = tail; head = head; fixed = fixed; cost = cost }) ++ rest) ≡ joins kind (record { tail = tail; head = head; fixed = fixed; cost = cost }) ∷ sayings rest
+sayings-ends Undirected tail head false cost rest named =
+    ap (λ n. sayings ((codes "edge " ++ (tail ++ (codes " " ++ (head ++ cost_end n)))) ++ rest)) (named.edge_cost refl)
+    ∙ sayings-three (codes "edge") tail head rest (literal (codes "edge") refl) (IsWord-name tail named.tail) (IsWord-name head named.head)
+sayings-ends Undirected tail head true cost rest named = absurd (true≢false (named.free refl))
+sayings-ends Directed tail head false cost rest named = sayings-arc tail head cost rest named.tail named.head (omega (arith, named.most))
+sayings-ends Directed tail head true cost rest named =
+    sayings-four (codes "arc") tail head (codes "fixed") rest (literal (codes "arc") refl) (IsWord-name tail named.tail) (IsWord-name head named.head) (literal (codes "fixed") refl)
+    ∙ ap (λ w. Arc tail head true w ∷ sayings rest) (sym (one_word cost (named.fixed_cost refl)))
 
-sayings-ends : (kind : Kind) (tail head : List ℕ) (fixed : Bool) (rest : List ℕ) → IsName tail → IsName head → (kind ≡ Undirected → fixed ≡ false)
-    → sayings (ends_line kind (record { tail = tail; head = head; fixed = fixed }) ++ rest) ≡ joins kind (record { tail = tail; head = head; fixed = fixed }) ∷ sayings rest
-sayings-ends Undirected tail head false rest p q free = sayings-three (codes "edge") tail head rest (literal (codes "edge") refl) p q
-sayings-ends Undirected tail head true rest p q free = absurd (true≢false (free refl))
-sayings-ends Directed tail head false rest p q free = sayings-three (codes "arc") tail head rest (literal (codes "arc") refl) p q
-sayings-ends Directed tail head true rest p q free = sayings-four (codes "arc") tail head (codes "fixed") rest (literal (codes "arc") refl) p q (literal (codes "fixed") refl)
+-- A name, and a number that has a decimal.
+pub record IsNode (node : List ℕ × ℕ) : Type 0 where
+  pub named : IsName node.0
+  pub fit : node.1 < 2 ^ 64
 
-sayings-nodes : (names : List (List ℕ)) (rest : List ℕ) → All IsName names → sayings (flat_map node_line names ++ rest) ≡ map Node names ++ sayings rest
-sayings-nodes [] rest named = refl
-sayings-nodes (name ∷ names) rest named =
-    ap sayings (append_assoc (node_line name) (flat_map node_line names) rest)
-    ∙ sayings-node name (flat_map node_line names ++ rest) (All-head IsName name names named)
-    ∙ ap (λ l. Node name ∷ l) (sayings-nodes names rest (All-tail IsName name names named))
+sayings-nodes : (nodes : List (List ℕ × ℕ)) (rest : List ℕ) → All IsNode nodes → sayings (flat_map node_line nodes ++ rest) ≡ map declares nodes ++ sayings rest
+sayings-nodes [] rest are = refl
+sayings-nodes (node ∷ nodes) rest are =
+    let here = All-head IsNode node nodes are in
+    ap sayings (append_assoc (node_line node) (flat_map node_line nodes) rest)
+    ∙ sayings-node node.0 node.1 (flat_map node_line nodes ++ rest) here.named here.fit
+    ∙ ap (λ l. declares node ∷ l) (sayings-nodes nodes rest (All-tail IsNode node nodes are))
 
 sayings-lines : (kind : Kind) (all : List Ends) (rest : List ℕ) → All (IsNamed kind) all → sayings (flat_map (ends_line kind) all ++ rest) ≡ map (joins kind) all ++ sayings rest
 sayings-lines kind [] rest named = refl
 sayings-lines kind (ends ∷ all) rest named =
     let here = All-head (IsNamed kind) ends all named in
     ap sayings (append_assoc (ends_line kind ends) (flat_map (ends_line kind) all) rest)
-    ∙ sayings-ends kind ends.tail ends.head ends.fixed (flat_map (ends_line kind) all ++ rest) here.tail here.head here.free
+    ∙ sayings-ends kind ends.tail ends.head ends.fixed ends.cost (flat_map (ends_line kind) all ++ rest) here
     ∙ ap (λ l. joins kind ends ∷ l) (sayings-lines kind all rest (All-tail (IsNamed kind) ends all named))
 
 -- the text says its header, its nodes, its lines and its end
-pub sayings-text : (kind : Kind) (names : List (List ℕ)) (all : List Ends) → All IsName names → All (IsNamed kind) all
-    → sayings (header_line kind ++ (flat_map node_line names ++ (flat_map (ends_line kind) all ++ codes "end\n"))) ≡ Header kind ∷ (map Node names ++ (map (joins kind) all ++ End ∷ []))
-sayings-text kind names all named ends =
-    sayings-header kind (flat_map node_line names ++ (flat_map (ends_line kind) all ++ codes "end\n"))
-    ∙ ap (λ l. Header kind ∷ l) (sayings-nodes names (flat_map (ends_line kind) all ++ codes "end\n") named)
-    ∙ ap (λ l. Header kind ∷ (map Node names ++ l)) (sayings-lines kind all (codes "end\n") ends)
+pub sayings-text : (kind : Kind) (nodes : List (List ℕ × ℕ)) (all : List Ends) → All IsNode nodes → All (IsNamed kind) all
+    → sayings (header_line kind ++ (flat_map node_line nodes ++ (flat_map (ends_line kind) all ++ codes "end\n"))) ≡ Header kind ∷ (map declares nodes ++ (map (joins kind) all ++ End ∷ []))
+sayings-text kind nodes all are named =
+    sayings-header kind (flat_map node_line nodes ++ (flat_map (ends_line kind) all ++ codes "end\n"))
+    ∙ ap (λ l. Header kind ∷ l) (sayings-nodes nodes (flat_map (ends_line kind) all ++ codes "end\n") are)
+    ∙ ap (λ l. Header kind ∷ (map declares nodes ++ l)) (sayings-lines kind all (codes "end\n") named)

@@ -1,5 +1,5 @@
 -- The faults of a line, in their order.
-use Rattle.std.specs.Prelude.{ℕ, Bool, true, false, not, ◌&&◌, ◌||◌, ◌==◌, nat_le, List, [], ◌∷◌, length, is_some}
+use Rattle.std.specs.Prelude.{ℕ, ◌+◌, Bool, true, false, not, ◌&&◌, ◌||◌, ◌==◌, nat_le, nat_lt, sum, List, [], ◌∷◌, length, is_some}
 use Rattle.std.specs.declared.option.Option.{Option}
 use Rattle.std.specs.declared.option.Option.TheVariants.{None, Some}
 use Rattle.std.specs.List.{find, list_any, list_all}
@@ -8,9 +8,10 @@ use Rattle.graph_core.specs.Name.{is_name_byte}
 use Rattle.graph_core.specs.declared.graph.Kind.{Kind}
 use Rattle.graph_core.specs.declared.graph.Kind.TheVariants.{Undirected, Directed}
 use Rattle.graph_text.specs.declared.refusal.Why.{Why}
-use Rattle.graph_text.specs.declared.refusal.Why.TheVariants.{NoHeader, BadLine, BadName, TwiceNode, UnknownNode, Loop, WrongKind, NoNode, NoEnd, ManyNodes, ManyLines}
+use Rattle.graph_text.specs.declared.refusal.Why.TheVariants.{NoHeader, BadLine, BadName, BadNumber, TwiceNode, UnknownNode, Loop, WrongKind, NoNode, NoEnd, ManyNodes, ManyLines, ManyNumbers, ManyCosts}
 use Rattle.graph_text.specs.Said.{Said, Skipped, Header, Node, Edge, Arc, End, Other}
-use Rattle.graph_text.specs.Before.{Ends, Content, nodes_on, ends_on, is_known}
+use Rattle.graph_text.specs.Numbers.{is_number}
+use Rattle.graph_text.specs.Before.{Ends, Content, nodes_on, number_words_on, numbers_on, cost_words_on, costs_on, ends_on, cost_of, is_known}
 
 -- 1 to 32 letters, digits, underscores, dots and dashes
 abbrev pub is_name : List ℕ → Bool
@@ -24,9 +25,9 @@ has_begun content = is_some content.kind
 abbrev pub wants_header : Said → Bool
 wants_header Skipped = false
 wants_header (Header kind) = false
-wants_header (Node name) = true
+wants_header (Node name number) = true
 wants_header (Edge tail head) = true
-wants_header (Arc tail head fixed) = true
+wants_header (Arc tail head fixed cost) = true
 wants_header End = true
 wants_header Other = true
 
@@ -34,9 +35,9 @@ wants_header Other = true
 abbrev pub is_no_item : Said → Bool
 is_no_item Skipped = false
 is_no_item (Header kind) = true
-is_no_item (Node name) = false
+is_no_item (Node name number) = false
 is_no_item (Edge tail head) = false
-is_no_item (Arc tail head fixed) = false
+is_no_item (Arc tail head fixed cost) = false
 is_no_item End = false
 is_no_item Other = true
 
@@ -45,20 +46,20 @@ abbrev pub is_wrong : Option Kind → Said → Bool
 is_wrong None said = false
 is_wrong (Some kind) Skipped = false
 is_wrong (Some kind) (Header other) = false
-is_wrong (Some kind) (Node name) = false
+is_wrong (Some kind) (Node name number) = false
 is_wrong (Some Undirected) (Edge tail head) = false
 is_wrong (Some Directed) (Edge tail head) = true
-is_wrong (Some Undirected) (Arc tail head fixed) = true
-is_wrong (Some Directed) (Arc tail head fixed) = false
+is_wrong (Some Undirected) (Arc tail head fixed cost) = true
+is_wrong (Some Directed) (Arc tail head fixed cost) = false
 is_wrong (Some kind) End = false
 is_wrong (Some kind) Other = false
 
 abbrev pub is_end : Said → Bool
 is_end Skipped = false
 is_end (Header kind) = false
-is_end (Node name) = false
+is_end (Node name number) = false
 is_end (Edge tail head) = false
-is_end (Arc tail head fixed) = false
+is_end (Arc tail head fixed cost) = false
 is_end End = true
 is_end Other = false
 
@@ -66,23 +67,26 @@ is_end Other = false
 abbrev pub lacks : (List ℕ → Bool) → Ends → Bool
 lacks has ends = not (has ends.tail) || not (has ends.head)
 
--- whether a cause holds of a line with this content before it
+-- Whether a cause holds of a line with this content before it. Where an arc isn't of the wrong kind, the lines before it are arcs.
 abbrev pub holds : Content → Said → Why → Bool
 holds content said NoHeader = wants_header said && not (has_begun content)
 holds content said BadLine = is_no_item said && has_begun content
 holds content said WrongKind = is_wrong content.kind said
 holds content said BadName = list_any (λ name. not (is_name name)) (nodes_on said) || list_any (lacks is_name) (ends_on said)
+holds content said BadNumber = list_any (λ word. not (is_number 8192 word)) (number_words_on said) || list_any (λ word. not (is_number 100 word)) (cost_words_on said)
 holds content said TwiceNode = list_any (is_known content) (nodes_on said)
 holds content said UnknownNode = list_any (lacks (is_known content)) (ends_on said)
 holds content said Loop = list_any (λ ends. bytes_eq ends.tail ends.head) (ends_on said)
 holds content said ManyNodes = list_any (λ name. nat_le 128 (length content.names)) (nodes_on said)
 holds content said ManyLines = list_any (λ ends. nat_le 2048 (length content.ends)) (ends_on said)
+holds content said ManyNumbers = list_any (λ number. nat_lt 65536 (sum content.numbers + number)) (numbers_on said)
+holds content said ManyCosts = list_any (λ cost. nat_lt 4000 (cost_of content.ends + cost)) (costs_on said)
 holds content said NoNode = is_end said && (length content.names == 0)
 holds content said NoEnd = false
 
 -- in the order in which they count
 abbrev pub causes : List Why
-causes = NoHeader ∷ BadLine ∷ WrongKind ∷ BadName ∷ TwiceNode ∷ UnknownNode ∷ Loop ∷ ManyNodes ∷ ManyLines ∷ NoNode ∷ []
+causes = NoHeader ∷ BadLine ∷ WrongKind ∷ BadName ∷ BadNumber ∷ TwiceNode ∷ UnknownNode ∷ Loop ∷ ManyNodes ∷ ManyLines ∷ ManyNumbers ∷ ManyCosts ∷ NoNode ∷ []
 
 -- the first cause that holds
 abbrev pub cause : Content → Said → Option Why

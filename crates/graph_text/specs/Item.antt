@@ -6,8 +6,8 @@ use Rattle.graph_text.specs.Said.{Said, Skipped, Header, Node, Edge, Arc, End, O
 abbrev pub said : Item → Said
 said item.Skipped = Skipped
 said (item.Header kind) = Header kind
-said (item.Node name) = Node name.now
+said (item.Node name number) = Node name.now number.now
 said (item.Edge tail head) = Edge tail.now head.now
-said (item.Arc tail head fixed) = Arc tail.now head.now fixed
+said (item.Arc tail head fixed cost) = Arc tail.now head.now fixed cost.now
 said item.End = End
 said item.Other = Other

@@ -2,6 +2,7 @@
 pub mod Lines
 pub mod Said
 pub mod Item
+pub mod Numbers
 pub mod Before
 pub mod Cause
 pub mod Text

@@ -1,11 +1,12 @@
 -- What the lines of a text add, one after another.
-use Rattle.std.specs.Prelude.{ℕ, ◌+◌, ◌-◌, ◌<◌, ◌≤◌, ◌≡◌, true, false, List, [], ◌∷◌, ◌++◌, length, take}
+use Rattle.std.specs.Prelude.{ℕ, ◌+◌, ◌-◌, ◌<◌, ◌≤◌, ◌≡◌, Bool, true, false, sum, List, [], ◌∷◌, ◌++◌, length, take}
 use Rattle.std.specs.declared.option.Option.TheVariants.{None, Some}
 use Rattle.std.specs.Str.{bytes_eq}
 use Rattle.graph_core.specs.Name.{IsName}
-use Rattle.graph_core.specs.declared.graph.Kind.TheVariants.{Directed}
+use Rattle.graph_core.specs.declared.graph.Kind.TheVariants.{Undirected, Directed}
+use Rattle.graph_text.specs.Numbers.{value, is_number, arc_cost}
 use Rattle.graph_text.specs.Said.{Said, Skipped, Header, Node, Edge, Arc, End, Other}
-use Rattle.graph_text.specs.Before.{Ends, Content, content_of, is_known}
+use Rattle.graph_text.specs.Before.{Ends, Content, content_of, cost_of, is_known}
 use Rattle.graph_text.specs.Text.{sayings, EndsAt}
 use Rattle.graph_text.specs.Reading.{CutsNoLine}
 
@@ -16,26 +17,40 @@ pub record CanJoin (content : Content) (tail head : List ℕ) : Type 0 where
   pub head_known : is_known content head ≡ true
   pub apart : bytes_eq tail head ≡ false
 
+-- a new name with a number, and room for both
+pub record CanAdd (content : Content) (name number : List ℕ) : Type 0 where
+  pub room : length content.names < 128
+  pub named : IsName name
+  pub fresh : is_known content name ≡ false
+  pub is_number : is_number 8192 number ≡ true
+  pub total : sum content.numbers + value number ≤ 65536
+
+-- an arc of a directed graph with a cost, and room for the cost
+pub record CanPay (content : Content) (fixed : Bool) (cost : List ℕ) : Type 0 where
+  pub kind : content.kind ≡ Some Directed
+  pub is_number : is_number 100 cost ≡ true
+  pub total : cost_of content.ends + arc_cost fixed cost ≤ 4000
+
 -- what a line without a fault meets
 abbrev pub CanTake : Content → Said → Type 0
 CanTake content Skipped = Unit {0}
 CanTake content (Header kind) = content.kind ≡ None
-CanTake content (Node name) = (length content.names < 128) × IsName name × (is_known content name ≡ false)
-CanTake content (Edge tail head) = CanJoin content tail head
-CanTake content (Arc tail head fixed) = CanJoin content tail head × (content.kind ≡ Some Directed)
+CanTake content (Node name number) = CanAdd content name number
+CanTake content (Edge tail head) = CanJoin content tail head × (content.kind ≡ Some Undirected)
+CanTake content (Arc tail head fixed cost) = CanJoin content tail head × CanPay content fixed cost
 CanTake content End = Unit {0}
 CanTake content Other = Unit {0}
 
 abbrev pub with_ends : Content → Ends → Content
-with_ends content ends = record { kind = content.kind; names = content.names; ends = content.ends ++ ends ∷ [] }
+with_ends content ends = record { kind = content.kind; names = content.names; numbers = content.numbers; ends = content.ends ++ ends ∷ [] }
 
 -- the content with what one more line says
 abbrev pub grown : Content → Said → Content
 grown content Skipped = content
-grown content (Header kind) = record { kind = Some kind; names = content.names; ends = content.ends }
-grown content (Node name) = record { kind = content.kind; names = content.names ++ name ∷ []; ends = content.ends }
-grown content (Edge tail head) = with_ends content (record { tail = tail; head = head; fixed = false })
-grown content (Arc tail head fixed) = with_ends content (record { tail = tail; head = head; fixed = fixed })
+grown content (Header kind) = record { kind = Some kind; names = content.names; numbers = content.numbers; ends = content.ends }
+grown content (Node name number) = record { kind = content.kind; names = content.names ++ name ∷ []; numbers = content.numbers ++ value number ∷ []; ends = content.ends }
+grown content (Edge tail head) = with_ends content (record { tail = tail; head = head; fixed = false; cost = 1 })
+grown content (Arc tail head fixed cost) = with_ends content (record { tail = tail; head = head; fixed = fixed; cost = arc_cost fixed cost })
 grown content End = content
 grown content Other = content
 

@@ -24,13 +24,14 @@ cause_at all at = cause (content_of (take at all)) (said_at all at)
 
 -- a line by the names of its ends
 abbrev pub ends_in : List (List ℕ) → Line → Ends
-ends_in names line = record { tail = slice_index_or names line.tail []; head = slice_index_or names line.head []; fixed = line.fixed }
+ends_in names line = record { tail = slice_index_or names line.tail []; head = slice_index_or names line.head []; fixed = line.fixed; cost = line.cost }
 
 -- A graph has the kind, the nodes and the lines that were declared, in their order.
 pub record StandsFor (content : Content) (g : GraphValue) : Type 0 where
   pub graph : IsGraph g
   pub kind : content.kind ≡ Some g.kind
   pub names : content.names ≡ g.names
+  pub numbers : content.numbers ≡ g.numbers
   pub ends : content.ends ≡ map (ends_in g.names) g.lines
 
 -- a line that has no fault and doesn't end the text

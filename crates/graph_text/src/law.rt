@@ -2,7 +2,7 @@ ghost use Rattle.std.specs.Prelude.{◌≡◌, ◌++◌, length, List, ℕ};
 ghost use Rattle.graph_core.specs.Graph.{GraphValue, IsGraph, IsWithinSize};
 ghost use Rattle.graph_text.specs.declared.refusal.Why.{Why};
 ghost use Rattle.graph_text.specs.Reading.{ReadsText, IsFault, IsTextAlone, IsFaultAlone};
-ghost use Rattle.graph_text.specs.PlainText.{plain_text};
+ghost use Rattle.graph_text.specs.PlainText.{plain_text, HasFewCosts};
 
 /// Bytes have one reading: one graph and one count, or one first fault, and not both.
 pub fn one_reading()
@@ -18,9 +18,9 @@ pub fn one_reading_alone()
     ensures not_both { (bytes : List ℕ) (g : GraphValue) (i : ℕ) (why : Why) → IsTextAlone bytes g → IsFaultAlone bytes i why → ⊥ }
 {}
 
-/// The plain text of a graph within the limits, whatever follows it, reads as the graph and ends
-/// where it ends.
+/// The plain text of a graph within the limits of a text, whatever follows it, reads as the graph
+/// and ends where it ends.
 pub fn plain_text_reads_back()
-    ensures front { (g : GraphValue) (rest : List ℕ) → IsGraph g → IsWithinSize g → ReadsText (plain_text g ++ rest) g (length (plain_text g)) }
-    ensures alone { (g : GraphValue) → IsGraph g → IsWithinSize g → IsTextAlone (plain_text g) g }
+    ensures front { (g : GraphValue) (rest : List ℕ) → IsGraph g → IsWithinSize g → HasFewCosts g → ReadsText (plain_text g ++ rest) g (length (plain_text g)) }
+    ensures alone { (g : GraphValue) → IsGraph g → IsWithinSize g → HasFewCosts g → IsTextAlone (plain_text g) g }
 {}

@@ -6,6 +6,7 @@ mod draft;
 mod item;
 mod law;
 mod line;
+mod number;
 mod read;
 mod refusal;
 mod words;

@@ -1,5 +1,6 @@
 ghost use Rattle.std.specs.Prelude.{◌≡◌, ◌+◌, ◌-◌, ◌<◌, ◌≤◌, ◌↔◌, length, take, IsTrue, IfOk, IfErr, OnOk, OnErr, IfSome, MatchOption, None, []};
 ghost use Rattle.graph_core.specs.Graph.{IsWithinSize};
+ghost use Rattle.graph_text.specs.PlainText.{HasFewCosts};
 ghost use Rattle.graph_text.specs.Lines.{lines};
 ghost use Rattle.graph_text.specs.Item.{said};
 ghost use Rattle.graph_text.specs.Text.{sayings, missing};
@@ -11,6 +12,7 @@ use crate::cause::cause;
 use crate::draft::Draft;
 use crate::item::{Item, item_of_line};
 use crate::line::first_line;
+use crate::number::{arc_cost, number_to};
 use crate::{GraphRefusal, Why};
 use graph_core::{Graph, NoMemory};
 use std::alloc::Global;
@@ -20,6 +22,7 @@ use std::alloc::Global;
 pub fn read_graph(alloc: Global, bytes: &[u8]) -> Result<(Graph, usize), GraphRefusal>
     ensures text { IfOk result (λ found. ReadsText bytes.now found.0 found.1) }
     ensures size { IfOk result (λ found. IsWithinSize found.0) }
+    ensures costs { IfOk result (λ found. HasFewCosts found.0) }
     ensures refused { IfErr result (IsRefused bytes.now) }
 {
     let (graph, ended) = read_text(alloc, bytes)?;
@@ -30,6 +33,7 @@ pub fn read_graph(alloc: Global, bytes: &[u8]) -> Result<(Graph, usize), GraphRe
 pub fn read_graph_alone(alloc: Global, bytes: &[u8]) -> Result<Graph, GraphRefusal>
     ensures text { IfOk result (λ graph. IsTextAlone bytes.now graph) }
     ensures size { IfOk result (λ graph. IsWithinSize graph) }
+    ensures costs { IfOk result (λ graph. HasFewCosts graph) }
     ensures refused { IfErr result (IsRefusedAlone bytes.now) }
 {
     let (graph, ended) = read_text(alloc, bytes)?;
@@ -55,6 +59,7 @@ fn read_text(alloc: Global, bytes: &[u8]) -> Result<(Graph, Ended), GraphRefusal
     ensures lines { IfOk result (λ found. found.1.lines ≡ length (lines (take found.1.bytes bytes.now))) }
     ensures few { IfOk result (λ found. found.1.lines + (length bytes.now - found.1.bytes) ≤ length bytes.now) }
     ensures size { IfOk result (λ found. IsWithinSize found.0) }
+    ensures costs { IfOk result (λ found. HasFewCosts found.0) }
     ensures refused { IfErr result (IsRefused bytes.now) }
 {
     let mut draft = Draft::new(alloc);
@@ -67,7 +72,7 @@ fn read_text(alloc: Global, bytes: &[u8]) -> Result<(Graph, Ended), GraphRefusal
 
 // Reads the lines of the text, up to and with its end.
 fn read_lines(alloc: Global, draft: &mut Draft, bytes: &[u8]) -> Result<Ended, GraphRefusal>
-    requires { draft.old ≡ record { kind = None; names = []; ends = [] } }
+    requires { draft.old ≡ record { kind = None; names = []; numbers = []; ends = [] } }
     ensures ok { IfOk result (λ ended. ReadsLines bytes.now draft.new ended.lines ended.bytes) }
     ensures refused { IfErr result (IsRefused bytes.now) }
 {
@@ -130,9 +135,15 @@ fn take(alloc: Global, draft: &mut Draft, item: &Item<'_>) -> Result<(), NoMemor
             draft.put_kind(*kind);
             Ok(())
         }
-        Item::Node(name) => draft.push_node(alloc, name),
-        Item::Edge(tail, head) => draft.push_line(tail, head, false),
-        Item::Arc(tail, head, fixed) => draft.push_line(tail, head, *fixed),
+        Item::Node(name, word) => {
+            let number = number_to(word, 8192).unwrap();
+            draft.push_node(alloc, name, number)
+        }
+        Item::Edge(tail, head) => draft.push_edge(tail, head),
+        Item::Arc(tail, head, fixed, word) => {
+            let number = number_to(word, 100).unwrap();
+            draft.push_arc(tail, head, *fixed, arc_cost(*fixed, number) as u32)
+        }
         _ => Ok(()),
     }
 }

@@ -9,6 +9,8 @@ pub enum Why {
     BadLine,
     #[error("a name has to be 1 to 32 letters, digits, `_`, `.` or `-`")]
     BadName,
+    #[error("a number has to be a decimal, of a node 0 to 8192 and of an arc's cost 0 to 100")]
+    BadNumber,
     #[error("a node has this name already")]
     TwiceNode,
     #[error("no node has this name yet")]
@@ -25,6 +27,10 @@ pub enum Why {
     ManyNodes,
     #[error("the graph has more than 2048 edges or arcs")]
     ManyLines,
+    #[error("the numbers of the nodes add up to more than 65536")]
+    ManyNumbers,
+    #[error("the costs of the arcs add up to more than 4000")]
+    ManyCosts,
 }
 
 /// Why no graph was read. Lines are counted from 1.

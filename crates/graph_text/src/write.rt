@@ -1,13 +1,17 @@
 ghost use Rattle.std.specs.Prelude.{◌≡◌, ◌++◌, map, IfOk, OnOk};
-ghost use Rattle.std.specs.List.{flat_map};
+ghost use Rattle.std.specs.List.{flat_map, zip};
+ghost use Rattle.std.specs.Fmt.{decimal};
 ghost use Rattle.graph_text.specs.Text.{ends_in};
-ghost use Rattle.graph_text.specs.PlainText.{header_line, node_line, keyword, line_end, ends_line, plain_text};
+ghost use Rattle.graph_text.specs.PlainText.{header_line, number_end, node_line, keyword, cost_end, line_end, ends_line, plain_text, HasFewCosts};
 
-use graph_core::{Graph, Kind, NoMemory};
+use graph_core::{Graph, Kind, Line, NoMemory};
+use itoa::Buffer;
 use std::alloc::Global;
 
-/// The plain text of the graph.
+/// The plain text of the graph. A text whose arcs cost more than 4,000 together would not be read
+/// back.
 pub fn write_graph(alloc: Global, graph: &Graph) -> Result<Vec<u8>, NoMemory>
+    requires { HasFewCosts graph.now }
     ensures { IfOk result (λ text. text.items ≡ plain_text graph.now) }
 {
     let mut text = Vec::new(alloc);
@@ -28,20 +32,31 @@ fn push_header(text: &mut Vec<u8>, kind: Kind) -> Result<(), NoMemory>
 }
 
 fn push_nodes(text: &mut Vec<u8>, graph: &Graph) -> Result<(), NoMemory>
-    ensures { OnOk result (text.new.items ≡ text.old.items ++ flat_map node_line graph.now.names) }
+    ensures { OnOk result (text.new.items ≡ text.old.items ++ flat_map node_line (zip graph.now.names graph.now.numbers)) }
 {
     graph.known();
-    for node in 0..graph.node_count() {
-        push_node_line(text, graph.name(node as u32).bytes())?;
+    for v in 0..graph.node_count() {
+        let v = v as u32;
+        push_node_line(text, graph.name(v).bytes(), graph.number(v))?;
     }
     Ok(())
 }
 
-fn push_node_line(text: &mut Vec<u8>, name: &[u8]) -> Result<(), NoMemory>
-    ensures { OnOk result (text.new.items ≡ text.old.items ++ node_line name.now) }
+fn push_node_line(text: &mut Vec<u8>, name: &[u8], number: u64) -> Result<(), NoMemory>
+    ensures { OnOk result (text.new.items ≡ text.old.items ++ node_line (name.now, number)) }
 {
     push_text(text, b"node ")?;
     push_text(text, name)?;
+    push_number_end(text, number)
+}
+
+fn push_number_end(text: &mut Vec<u8>, number: u64) -> Result<(), NoMemory>
+    ensures { OnOk result (text.new.items ≡ text.old.items ++ number_end number) }
+{
+    if number != 0 {
+        push_text(text, b" ")?;
+        push_decimal(text, number)?;
+    }
     push_text(text, b"\n")
 }
 
@@ -53,7 +68,7 @@ fn push_lines(text: &mut Vec<u8>, graph: &Graph) -> Result<(), NoMemory>
         let line = graph.line(j);
         let tail = graph.name(line.tail).bytes();
         let head = graph.name(line.head).bytes();
-        push_ends_line(text, graph.kind(), tail, head, line.fixed)?;
+        push_ends_line(text, graph.kind(), tail, head, line)?;
     }
     Ok(())
 }
@@ -63,15 +78,15 @@ fn push_ends_line(
     kind: Kind,
     tail: &[u8],
     head: &[u8],
-    fixed: bool,
+    line: Line,
 ) -> Result<(), NoMemory>
-    ensures { OnOk result (text.new.items ≡ text.old.items ++ ends_line kind (record { tail = tail.now; head = head.now; fixed = fixed })) }
+    ensures { OnOk result (text.new.items ≡ text.old.items ++ ends_line kind (record { tail = tail.now; head = head.now; fixed = line.fixed; cost = line.cost })) }
 {
     push_keyword(text, kind)?;
     push_text(text, tail)?;
     push_text(text, b" ")?;
     push_text(text, head)?;
-    push_line_end(text, fixed)
+    push_line_end(text, line.fixed, line.cost)
 }
 
 fn push_keyword(text: &mut Vec<u8>, kind: Kind) -> Result<(), NoMemory>
@@ -83,14 +98,31 @@ fn push_keyword(text: &mut Vec<u8>, kind: Kind) -> Result<(), NoMemory>
     }
 }
 
-fn push_line_end(text: &mut Vec<u8>, fixed: bool) -> Result<(), NoMemory>
-    ensures { OnOk result (text.new.items ≡ text.old.items ++ line_end fixed) }
+fn push_line_end(text: &mut Vec<u8>, fixed: bool, cost: u32) -> Result<(), NoMemory>
+    ensures { OnOk result (text.new.items ≡ text.old.items ++ line_end fixed cost) }
 {
     if fixed {
         push_text(text, b" fixed\n")
     } else {
-        push_text(text, b"\n")
+        push_cost_end(text, cost)
     }
+}
+
+fn push_cost_end(text: &mut Vec<u8>, cost: u32) -> Result<(), NoMemory>
+    ensures { OnOk result (text.new.items ≡ text.old.items ++ cost_end cost) }
+{
+    if cost != 1 {
+        push_text(text, b" cost ")?;
+        push_decimal(text, u64::from(cost))?;
+    }
+    push_text(text, b"\n")
+}
+
+fn push_decimal(text: &mut Vec<u8>, number: u64) -> Result<(), NoMemory>
+    ensures { OnOk result (text.new.items ≡ text.old.items ++ decimal number) }
+{
+    let mut buffer = Buffer::new();
+    push_text(text, buffer.format(number).as_bytes())
 }
 
 fn push_text(text: &mut Vec<u8>, part: &[u8]) -> Result<(), NoMemory>

@@ -18,7 +18,7 @@ use Rattle.graph_core.specs.Labels.{class, splits}
 use Rattle.graphic_matroid.specs.Unfit.{unfit}
 use Rattle.graphic_matroid.specs.Roots.{AreClasses, IsRootOf}
 use Rattle.graphic_matroid.specs.Components.{AreComponents, classes_of}
-use Rattle.graph_core.proofs.SizeLaws.{weight_true, weight_false, weight_most, count-cons, count-le_three, sum_one}
+use Rattle.graph_core.proofs.SizeLaws.{weight_true, weight_false, weight_most, count-cons, count-filter, count-le_three, sum_one}
 use Rattle.graph_core.proofs.SideLaws.{nonempty-has}
 use Rattle.graph_core.proofs.LabelLaws.{in_class, to_class, split_not}
 use Rattle.graphic_matroid.specs.ForestLaws.{fit_ends}
@@ -29,16 +29,6 @@ filter_more f i =
     ap (filter f) (sym (map-id (range_with_len 0 (i + 1))))
     ∙ filter_of_map_range_with_len_more f (λ v. v) 0 i i (zero-add i)
     ∙ ap (λ r. filter f r ++ cond (f i) (i ∷ []) []) (map-id (range_with_len 0 i))
-
--- a count over a filtered list
-count-filter : {X : Type 0} (p f : X → Bool) (xs : List X) → count_by p (filter f xs) ≡ count_by (λ x. f x && p x) xs
-count-filter p f [] = refl
-count-filter p f (x ∷ xs) =
-    rw (count-cons (λ y. f y && p y) x xs)
-    (elim (f x) as (λ b. count_by p (cond b (x ∷ filter f xs) (filter f xs)) ≡ weight (b && p x) + count_by (λ y. f y && p y) xs) [
-      | true ↦ count-cons p x (filter f xs) ∙ ap (λ k. weight (p x) + k) (count-filter p f xs)
-      | false ↦ count-filter p f xs ∙ sym (zero-add (count_by (λ y. f y && p y) xs))
-    ])
 
 -- what holds of each number that passes
 All-filter : (P : ℕ → Type 0) (f : ℕ → Bool) (a n : ℕ) → ((r : ℕ) → a ≤ r → r < a + n → f r ≡ true → P r) → All P (filter f (range_with_len a n))

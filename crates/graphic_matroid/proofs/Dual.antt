@@ -26,6 +26,7 @@ use Rattle.graphic_matroid.specs.ChosenLaws.{chosen-le, chosen-all, chosen-set, 
 use Rattle.graph_core.proofs.LabelLaws.{in_class, to_class, split_is, split_not, forest_more}
 use Rattle.graphic_matroid.specs.ForestLaws.{labels_exist, Labelled, fit_ends}
 use Rattle.graphic_matroid.proofs.ComponentLaws.{differ_weights}
+use Rattle.graph_core.specs.Graph.{no_line}
 
 -- the reached lines of part p
 abbrev pub kept_lines : List (List ℕ) → List Bool → ℕ → ℕ → Bool
@@ -109,9 +110,6 @@ module _ (n : ℕ) (ls : List Line) (fit : count_by (unfit n) ls ≡ 0) (k : ℕ
       (λ none. none)
       (chosen-find (splits lab) reached ls no_line)
     where
-      no_line : Line
-      no_line = record { tail = 0; head = 0; fixed = false }
-
       grown : (q e i : ℕ) → e < length (set_of (length ls) (kept_lines rows reached q)) → i < length ls → has (set_of (length ls) (plus (kept_lines rows reached q) e)) i ≡ true → has (set (set_of (length ls) (kept_lines rows reached q)) e true) i ≡ true
       grown q e i le li h =
           ⊎_elim

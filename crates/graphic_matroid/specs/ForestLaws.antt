@@ -21,6 +21,7 @@ use Rattle.graph_core.proofs.Counting.{weight, sum_by-add, sum_by-swap}
 use Rattle.graph_core.proofs.SetLaws.{length_of}
 use Rattle.graph_core.proofs.SizeLaws.{weight_true, weight_false, weight_most, count-cons, count-none, sum-le, sum_one, some_or_none}
 use Rattle.graph_core.proofs.SideLaws.{nonempty-has}
+use Rattle.graph_core.specs.Graph.{no_line}
 
 -- the ends of a line that is fit
 pub fit_ends : (n : ℕ) (l : Line) → unfit n l ≡ false → (l.tail < n) × (l.head < n)
@@ -136,9 +137,6 @@ module _ (n : ℕ) (lab : ℕ → ℕ) where
         let c = inner_most ls in
         omega arith
 
-some_line : Line
-some_line = record { tail = 0; head = 0; fixed = false }
-
 module _ (n : ℕ) (ls : List Line) (fit : count_by (unfit n) ls ≡ 0) where
   abbrev forest : List Bool → Type 0
   forest A = IsAcyclic n (chosen A ls)
@@ -156,20 +154,20 @@ module _ (n : ℕ) (ls : List Line) (fit : count_by (unfit n) ls ≡ 0) where
       ⊎_elim
       (λ found.
       let l : found.0 < length ls = found.1 in
-      let fresh : has A found.0 ≡ false = false_from_ne_true (has A found.0) (λ t. absurd (let some = chosen-some (splits labels.lab) A ls found.0 some_line l t found.3 in let none = labels.is.closed in omega arith)) in
+      let fresh : has A found.0 ≡ false = false_from_ne_true (has A found.0) (λ t. absurd (let some = chosen-some (splits labels.lab) A ls found.0 no_line l t found.3 in let none = labels.is.closed in omega arith)) in
       record {
         taken = found.0;
         below = l;
         theirs = found.2;
         fresh = fresh;
-        stays = forest_more n labels.lab (chosen A ls) labels.is.closed fa (get_or ls found.0 some_line) (chosen (set A found.0 true) ls)
-            (record { counts = λ p. chosen-set p A ls found.0 some_line (omega arith) l fresh }) (split_is n labels.lab (get_or ls found.0 some_line) found.3);
+        stays = forest_more n labels.lab (chosen A ls) labels.is.closed fa (get_or ls found.0 no_line) (chosen (set A found.0 true) ls)
+            (record { counts = λ p. chosen-set p A ls found.0 no_line (omega arith) l fresh }) (split_is n labels.lab (get_or ls found.0 no_line) found.3);
       })
       (λ none. absurd (
       let fit_b = chosen-all (unfit n) B ls in
       let le = forest_le n labels.lab (chosen A ls) (chosen B ls) labels.is fb none (omega arith) in
       omega (arith, chosen-size A ls la, chosen-size B ls lb)))
-      (chosen-find (splits labels.lab) B ls some_line)
+      (chosen-find (splits labels.lab) B ls no_line)
 
   pub forest_matroid : IsMatroid (length ls) (λ A. IsAcyclic n (chosen A ls))
   forest_matroid = record { empty = forest_empty; part = forest_part; take = forest_take }

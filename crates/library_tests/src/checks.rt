@@ -8,7 +8,7 @@ use std::process::Abort;
 use std::test::Fail;
 
 // A graph, a certificate for it, and the checker's answer.
-const CHECKS: [(&[u8], &str, Result<(), Rejection>); 51] = [
+const CHECKS: [(&[u8], &str, Result<(), Rejection>); 52] = [
     // Walks across the square.
     (
         SQUARE,
@@ -70,11 +70,16 @@ const CHECKS: [(&[u8], &str, Result<(), Rejection>); 51] = [
         "certificate 1\ncommand flow a d\nvalue 02\npath 1 2\npath 3 4\ndual cut\nset a\nend\n",
         Err(Rejection::Malformed { line: 3 }),
     ),
-    // A command that isn't checked yet.
+    // No side is closed.
     (
         COMPLETE,
         "certificate 1\ncommand dijoin\nvalue 0\njoin\ndual dicuts\nend\n",
-        Err(Rejection::Malformed { line: 2 }),
+        Ok(()),
+    ),
+    (
+        COMPLETE,
+        "certificate 1\ncommand dijoin\nimpossible\ndual dicut\nset a\nend\n",
+        Err(Rejection::BadDual),
     ),
     // A square needs no edge. The second text goes on behind its end.
     (

@@ -6,7 +6,7 @@ use std::test::Fail;
 
 // A text with what follows it, the number of the text's bytes, the plain text, and the number of
 // the first later line that isn't skipped, or 0.
-const TEXTS: [(&[u8], usize, &[u8], usize); 9] = [
+const TEXTS: [(&[u8], usize, &[u8], usize); 12] = [
     (
         b"graph undirected\nnode a\nnode b\nedge a b\nend\n",
         44,
@@ -61,10 +61,28 @@ const TEXTS: [(&[u8], usize, &[u8], usize); 9] = [
         b"graph undirected\nnode ABCDEFGHIJKLMNOPQRSTUVWXYZ_.-789\nnode abcdefghijklmnopqrstuvwxyz012345\nnode 6\nend\n",
         0,
     ),
+    (
+        b"graph directed\nnode a 0\nnode b 8192\nnode c\narc a b cost 0\narc b c cost 1\narc a c cost 100\narc c a fixed\nend\n",
+        108,
+        b"graph directed\nnode a\nnode b 8192\nnode c\narc a b cost 0\narc b c\narc a c cost 100\narc c a fixed\nend\n",
+        0,
+    ),
+    (
+        b"graph undirected\nnode 7 7\r\n\tnode  cost\t10 \nedge 7 cost\nend\n# 1\n",
+        59,
+        b"graph undirected\nnode 7 7\nnode cost 10\nedge 7 cost\nend\n",
+        0,
+    ),
+    (
+        b"graph directed\nnode cost\nnode fixed 1\narc cost fixed cost 2\narc fixed cost fixed\nend",
+        84,
+        b"graph directed\nnode cost\nnode fixed 1\narc cost fixed cost 2\narc fixed cost fixed\nend\n",
+        0,
+    ),
 ];
 
 // A text, its first line with a fault, and the cause.
-const FAULTS: [(&[u8], usize, Why); 54] = [
+const FAULTS: [(&[u8], usize, Why); 78] = [
     (b"", 1, Why::NoHeader),
     (b"# only\n\n", 3, Why::NoHeader),
     (b"node a\n", 1, Why::NoHeader),
@@ -80,11 +98,16 @@ const FAULTS: [(&[u8], usize, Why); 54] = [
     (b"graph undirected\ngraph undirected\n", 2, Why::BadLine),
     (b"graph undirected\ngraph directed\n", 2, Why::BadLine),
     (b"graph directed\nnode\n", 2, Why::BadLine),
-    (b"graph directed\nnode a b\n", 2, Why::BadLine),
-    (b"graph directed\nnode a #\n", 2, Why::BadLine),
+    (b"graph directed\nnode a 1 2\n", 2, Why::BadLine),
     (b"graph directed\nnode a\nend x\n", 3, Why::BadLine),
     (b"graph directed\narc a b loose\n", 2, Why::BadLine),
     (b"graph directed\narc a b fixed x\n", 2, Why::BadLine),
+    (b"graph directed\narc a b cost\n", 2, Why::BadLine),
+    (b"graph directed\narc a b costs 3\n", 2, Why::BadLine),
+    (b"graph directed\narc a b 3\n", 2, Why::BadLine),
+    (b"graph directed\narc a b fixed cost 1\n", 2, Why::BadLine),
+    (b"graph directed\narc a b cost 1 fixed\n", 2, Why::BadLine),
+    (b"graph undirected\nedge a b cost 1\n", 2, Why::BadLine),
     (b"graph undirected\nedge a\n", 2, Why::BadLine),
     (b"graph undirected\nedge a b fixed\n", 2, Why::BadLine),
     (
@@ -109,7 +132,10 @@ const FAULTS: [(&[u8], usize, Why); 54] = [
         Why::WrongKind,
     ),
     (b"graph directed\nedge a! b\n", 2, Why::WrongKind),
+    (b"graph undirected\narc a b cost x\n", 2, Why::WrongKind),
     (b"graph undirected\nnode a!\n", 2, Why::BadName),
+    (b"graph undirected\nnode a! x\n", 2, Why::BadName),
+    (b"graph directed\narc a b! cost x\n", 2, Why::BadName),
     (
         b"graph undirected\nnode ABCDEFGHIJKLMNOPQRSTUVWXYZ_.-7890\n",
         2,
@@ -127,6 +153,26 @@ const FAULTS: [(&[u8], usize, Why); 54] = [
     (b"graph undirected\nnode a,b\n", 2, Why::BadName),
     (b"graph undirected\nnode a\nedge a! b\n", 3, Why::BadName),
     (b"graph undirected\nnode a\nedge b a!\n", 3, Why::BadName),
+    (b"graph directed\nnode a b\n", 2, Why::BadNumber),
+    (b"graph directed\nnode a #\n", 2, Why::BadNumber),
+    (b"graph directed\nnode a 8193\n", 2, Why::BadNumber),
+    (b"graph directed\nnode a -0\n", 2, Why::BadNumber),
+    (b"graph directed\nnode a +1\n", 2, Why::BadNumber),
+    (b"graph directed\nnode a 01\n", 2, Why::BadNumber),
+    (b"graph directed\nnode a 00\n", 2, Why::BadNumber),
+    (b"graph directed\nnode a 1.0\n", 2, Why::BadNumber),
+    (b"graph directed\nnode a 1\0\n", 2, Why::BadNumber),
+    (b"graph directed\nnode a \xC2\xB2\n", 2, Why::BadNumber),
+    (b"graph directed\nnode a \xFF\n", 2, Why::BadNumber),
+    (
+        b"graph directed\nnode a 18446744073709551617\n",
+        2,
+        Why::BadNumber,
+    ),
+    (b"graph directed\nnode a\nnode a x\n", 3, Why::BadNumber),
+    (b"graph directed\narc a a cost 101\n", 2, Why::BadNumber),
+    (b"graph directed\narc a b cost 07\n", 2, Why::BadNumber),
+    (b"graph directed\narc a b cost fixed\n", 2, Why::BadNumber),
     (
         b"graph undirected\nnode a\nnode b\nnode a\nend\n",
         4,
@@ -243,8 +289,68 @@ fn large_text(alloc: Global, nodes: u8, arcs: usize, last: &[u8]) -> Result<Vec<
         text.push(b'a' + node % 16)?;
         text.push(b'\n')?;
     }
-    for _ in 0..arcs {
-        text.extend_from_slice(b"arc aa ab\n")?;
+    repeated(alloc, &text, b"arc aa ab\n", arcs, last)
+}
+
+const NUMBERS: &[u8] =
+    b"graph undirected\nnode a 8192\nnode b 8192\nnode c 8192\nnode d 8192\nnode e 8192\nnode f 8192\nnode g 8192\nnode h 8192\n";
+
+const COSTS: &[u8] = b"graph directed\nnode a\nnode b\n";
+
+const COST: &[u8] = b"arc a b cost 100\n";
+
+// The front of a text, a line that follows so often, what follows then, and the line and cause of
+// the first fault.
+const SUMS: [(&[u8], &[u8], usize, &[u8], Option<(usize, Why)>); 11] = [
+    (NUMBERS, b"", 0, b"end\n", None),
+    (NUMBERS, b"", 0, b"node i\nnode j 0\nend\n", None),
+    (NUMBERS, b"", 0, b"node i 1\n", Some((10, Why::ManyNumbers))),
+    (
+        NUMBERS,
+        b"",
+        0,
+        b"node i\nnode j 1\n",
+        Some((11, Why::ManyNumbers)),
+    ),
+    (NUMBERS, b"", 0, b"node a 1\n", Some((10, Why::TwiceNode))),
+    (COSTS, COST, 40, b"end\n", None),
+    (COSTS, COST, 40, b"arc b a cost 0\nend\n", None),
+    (COSTS, COST, 40, COST, Some((44, Why::ManyCosts))),
+    (COSTS, COST, 40, b"arc b a\n", Some((44, Why::ManyCosts))),
+    (
+        COSTS,
+        COST,
+        40,
+        b"arc b a fixed\n",
+        Some((44, Why::ManyCosts)),
+    ),
+    (COSTS, COST, 40, b"arc a a cost 1\n", Some((44, Why::Loop))),
+];
+
+#[test]
+fn sums_of_numbers_and_costs_are_kept(rt: HostRuntime) -> Result<(), Fail> {
+    let alloc = rt.alloc();
+    for (front, part, times, last, first) in SUMS {
+        let text = repeated(alloc, front, part, times, last)?;
+        let mut fault = None;
+        if let Some((line, why)) = first {
+            fault = Some(GraphRefusal::Fault { line, why });
+        }
+        same(&rt, &read_graph(alloc, &text).err(), &fault, &last);
+    }
+    Ok(())
+}
+
+fn repeated(
+    alloc: Global,
+    front: &[u8],
+    part: &[u8],
+    times: usize,
+    last: &[u8],
+) -> Result<Vec<u8>, Fail> {
+    let mut text = front.to_vec(alloc)?;
+    for _ in 0..times {
+        text.extend_from_slice(part)?;
     }
     text.extend_from_slice(last)?;
     Ok(text)

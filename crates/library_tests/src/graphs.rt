@@ -233,6 +233,7 @@ fn line(tail: u32, head: u32) -> Line {
         tail,
         head,
         fixed: false,
+        cost: 1,
     }
 }
 

@@ -48,12 +48,14 @@ fn distinct_names(alloc: Global, n: u32) -> Result<Vec<Name>, Fail>
 fn are_edges(n: usize, lines: &[Line]) -> bool
     ensures ends { IsTrue result → All (Fits n) lines.now }
     ensures free { IsTrue result → All (λ l. l.fixed ≡ false) lines.now }
+    ensures cheap { IsTrue result → All (λ l. l.cost ≡ 1) lines.now }
 {
     lines.iter().all(|line| {
         (line.tail as usize) < n
             && (line.head as usize) < n
             && line.tail != line.head
             && !line.fixed
+            && line.cost == 1
     })
 }
 
@@ -64,6 +66,7 @@ fn push_round(lines: &mut Vec<Line>, distance: u32) -> Result<(), NoMemory> {
             tail,
             head: tail.wrapping_add(distance) % NODES,
             fixed: false,
+            cost: 1,
         })?;
     }
     Ok(())

@@ -4,7 +4,6 @@
 #[cfg(test)]
 mod arc_augmentation;
 #[cfg(test)]
-mod arc_splitting;
 #[cfg(test)]
 mod asserts;
 #[cfg(test)]
@@ -18,11 +17,17 @@ mod checks;
 #[cfg(test)]
 mod cut_functions;
 #[cfg(test)]
+mod dicuts;
+#[cfg(test)]
+mod dijoins;
+#[cfg(test)]
 mod examples;
 #[cfg(test)]
 mod flows;
 #[cfg(test)]
 mod forests;
+#[cfg(test)]
+mod generated;
 #[cfg(test)]
 mod graph_texts;
 #[cfg(test)]
@@ -33,6 +38,8 @@ mod large;
 mod matroids;
 #[cfg(test)]
 mod orientation;
+#[cfg(test)]
+mod side_words;
 #[cfg(test)]
 mod splitting;
 #[cfg(test)]

@@ -23,7 +23,7 @@ const BOW: &[u8] =
     b"graph undirected\nnode a\nnode b\nnode c\nnode d\nnode e\nnode f\nnode g\nedge a b\nedge c b\nedge c d\nedge a d\nedge a e\nedge f e\nedge f g\nedge a g\nend\n";
 
 /// Whether the node is in the side, whose number has a binary digit for each node.
-fn holds(side: u32, v: u32) -> bool {
+pub fn holds(side: u32, v: u32) -> bool {
     side.wrapping_shr(v) % 2 == 1
 }
 

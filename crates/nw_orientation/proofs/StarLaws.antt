@@ -6,7 +6,8 @@ use Rattle.std.proofs.lemmas.List.{length-append, length-take-le, length-map, ge
 use Rattle.std.proofs.lemmas.List.Sums.{length-filter, count_by-le-length}
 use Rattle.std.proofs.lemmas.List.Elements.{All-nil, All-cons, All-head, All-tail, All-map, All-weaker}
 use Rattle.graph_core.specs.Connected.{IsEdgeConnected}
-use Rattle.graph_core.specs.Graph.{GraphValue, Fits, MakesGraph, IsGraph, line_of, lines_of}
+use Rattle.graph_core.specs.Graph.{GraphValue, Fits, MakesGraph, IsGraph, line_of, lines_of, no_numbers}
+use Rattle.graph_core.proofs.GraphLaws.{all-priced, AreNumbers-none}
 use Rattle.graph_core.specs.Picked.{occurrences}
 use Rattle.graph_core.specs.declared.graph.Kind.TheVariants.{Undirected}
 use Rattle.graph_core.specs.declared.graph.Line.{Line}
@@ -30,9 +31,9 @@ AllPairs-take R q xs l h = λ i j d a b.
     let lj : j < q = omega (arith, length-take-le q xs l) in
     rw (get_or-take q xs i d (omega arith), get_or-take q xs j d lj) (h i j d a (omega arith))
 
-pub makes_star : (g : GraphValue) (q : ℕ) (ls : List Line) → IsGraph g → length g.names ≡ q + 1 → 1 ≤ q → All (Fits q) ls → All (λ l. l.fixed ≡ false) ls → length ls ≤ 65536
-    → MakesGraph (record { kind = Undirected; names = take q g.names; lines = ls })
-makes_star g q ls ok size some fits free few =
+pub makes_star : (g : GraphValue) (q : ℕ) (ls : List Line) → IsGraph g → length g.names ≡ q + 1 → 1 ≤ q → All (Fits q) ls → All (λ l. l.fixed ≡ false) ls → All (λ l. l.cost ≡ 1) ls → length ls ≤ 65536
+    → MakesGraph (record { kind = Undirected; names = take q g.names; lines = ls; numbers = no_numbers (length (take q g.names)) })
+makes_star g q ls ok size some fits free ones few =
     let long : length (take q g.names) ≡ q = length-take-le q g.names (omega arith) in
     record {
       some = omega arith;
@@ -41,6 +42,8 @@ makes_star g q ls ok size some fits free few =
       distinct = AllPairs-take (λ a b. a ≢ b) q g.names (omega arith) ok.makes.distinct;
       ends = rw long fits;
       free = λ _. free;
+      priced = all-priced Undirected ls ones;
+      numbered = AreNumbers-none (length (take q g.names));
     }
 
 pub far_fits : (z q : ℕ) → z ≤ q → (ls : List Line) → All (Fits (q + 1)) ls → All (Fits q) (others z q ls)

@@ -23,7 +23,3 @@ abbrev pub woven : List Bool → List Bool → List Bool → List Bool
 woven [] xs ys = []
 woven (true ∷ ms) xs ys = first xs ∷ woven ms (rest xs) ys
 woven (false ∷ ms) xs ys = first ys ∷ woven ms xs (rest ys)
-
--- what stands past the end of a list of lines
-abbrev pub no_line : Line
-no_line = record { tail = 0; head = 0; fixed = false }

@@ -7,7 +7,7 @@ abbrev pub moved : ℕ → ℕ → ℕ → ℕ
 moved z q v = cond (v == q) z v
 
 abbrev pub moved_line : ℕ → ℕ → Line → Line
-moved_line z q l = record { tail = moved z q l.tail; head = moved z q l.head; fixed = l.fixed }
+moved_line z q l = record { tail = moved z q l.tail; head = moved z q l.head; fixed = l.fixed; cost = 1 }
 
 -- the line has z as an end; its other end
 abbrev pub touches : ℕ → Line → Bool

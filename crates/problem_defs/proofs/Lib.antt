@@ -1,3 +1,4 @@
 pub mod BestLaw
 pub mod NeverLaw
+pub mod TreeLines
 pub mod VerbLaws

@@ -5,9 +5,9 @@ use Rattle.problem_defs.specs.Best.{IsBest}
 use Rattle.problem_defs.specs.Impossible.{IsImpossible, IsNever}
 use Rattle.problem_defs.specs.Meets.{Meets, HasObject}
 use Rattle.problem_defs.specs.declared.ask.Ask.{Ask}
-use Rattle.problem_defs.specs.declared.ask.Ask.TheVariants.{Flow, Orient}
+use Rattle.problem_defs.specs.declared.ask.Ask.TheVariants.{Flow, Orient, Dijoin}
 use Rattle.problem_defs.specs.declared.cert.Body.{Body}
-use Rattle.problem_defs.specs.declared.cert.Body.TheVariants.{Turned, Never}
+use Rattle.problem_defs.specs.declared.cert.Body.TheVariants.{Turned, Join, Never}
 use Rattle.problem_defs.specs.declared.cert.Cert.{Cert}
 use Rattle.problem_defs.proofs.BestLaw.{meets-best}
 
@@ -15,6 +15,9 @@ pub object-or-never : (g : GraphValue) (ask : Ask) (body : Body) → HasObject g
 object-or-never g (Orient k) (Turned heads) object best = inl (λ never. never, λ none. none heads object)
 object-or-never g (Orient k) (Never side) object best = inr (tt, best)
 object-or-never g (Orient k) body object best = absurd object
+object-or-never g Dijoin (Join value join sides) object best = inl (λ never. never, λ none. none join object)
+object-or-never g Dijoin (Never side) object best = inr (tt, best)
+object-or-never g Dijoin body object best = absurd object
 object-or-never g (Flow s t) (Never side) object best = absurd object
 object-or-never g ask (Never side) object best = absurd object
 object-or-never g ask body object best = inl (λ never. never, λ none. none)

@@ -8,6 +8,8 @@ use Rattle.graph_core.specs.Connected.{IsEdgeConnected}
 use Rattle.graph_core.specs.declared.graph.Kind.TheVariants.{Undirected}
 use Rattle.problem_defs.specs.declared.problem.Problem.{Ghosts}
 use Rattle.problem_defs.specs.declared.augment.AugmentAsk.{AugmentAsk}
+pub mod Cert
+pub mod Law
 
 pub record Suits (k : ℕ) (g : GraphValue) : Type 0 where
   pub low : 1 ≤ k

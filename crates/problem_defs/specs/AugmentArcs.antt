@@ -8,6 +8,8 @@ use Rattle.problem_defs.specs.Ways.{count_for}
 use Rattle.problem_defs.specs.declared.cert.Family.{Family}
 use Rattle.problem_defs.specs.declared.problem.Problem.{Ghosts}
 use Rattle.problem_defs.specs.declared.augment_arcs.AugmentArcsAsk.{AugmentArcsAsk}
+pub mod Cert
+pub mod Law
 
 pub record Suits (k : ℕ) (g : GraphValue) : Type 0 where
   pub low : 1 ≤ k

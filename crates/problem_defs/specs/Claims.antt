@@ -6,14 +6,15 @@ use Rattle.problem_defs.specs.Duality.{IsNoBetter}
 use Rattle.problem_defs.specs.Arborescences.{problem as arborescences}
 use Rattle.problem_defs.specs.Augment.{problem as augment}
 use Rattle.problem_defs.specs.AugmentArcs.{problem as augment_arcs}
+use Rattle.problem_defs.specs.Dijoin.{problem as dijoin, Forbids as NoDijoin}
 use Rattle.problem_defs.specs.Flow.{problem as flow}
 use Rattle.problem_defs.specs.Forests.{problem as forests}
 use Rattle.problem_defs.specs.Orient as orient
 use Rattle.problem_defs.specs.Trees.{problem as trees}
 use Rattle.problem_defs.specs.declared.ask.Ask.{Ask}
-use Rattle.problem_defs.specs.declared.ask.Ask.TheVariants.{Flow, CutTree, Augment, AugmentArcs, Arborescences, Trees, Forests, Orient}
+use Rattle.problem_defs.specs.declared.ask.Ask.TheVariants.{Flow, CutTree, Augment, AugmentArcs, Arborescences, Trees, Forests, Orient, Dijoin}
 use Rattle.problem_defs.specs.declared.cert.Body.{Body}
-use Rattle.problem_defs.specs.declared.cert.Body.TheVariants.{Tree, Turned, Walks, Edges, Arcs, Parts, Never}
+use Rattle.problem_defs.specs.declared.cert.Body.TheVariants.{Tree, Turned, Walks, Edges, Arcs, Parts, Join, Never}
 use Rattle.problem_defs.specs.declared.cert.ForestDual.TheVariants.{Nothing, Induced}
 use Rattle.problem_defs.specs.declared.cert.PartsDual.TheVariants.{Cut, Partition, Induced as InducedSide, Nothing as NoDual}
 use Rattle.problem_defs.specs.declared.problem.Problem.{Ghosts}
@@ -57,4 +58,6 @@ claims g Forests (Parts value rows (InducedSide side)) = certified forests g (re
 claims g Forests (Parts value rows NoDual) = certified forests g (record {}) value rows Nothing
 claims g (Orient k) (Turned heads) = valueless (orient.IsFeasible k g heads)
 claims g (Orient k) (Never side) = forbidding (orient.Forbids k g side) (orient.IsFeasible k g)
+claims g Dijoin (Join value join sides) = certified dijoin g (record {}) value join sides
+claims g Dijoin (Never side) = forbidding (NoDijoin g side) (dijoin.feasible (record {}) g)
 claims g ask body = record { object = ⊥; dual = ⊥; value = ⊥; best = ⊥ }

@@ -1,9 +1,9 @@
-ghost use Rattle.problem_defs.specs.AugmentCert.{augment_suits, augment-meets};
+ghost use Rattle.problem_defs.specs.Augment.Cert.{augment_suits, augment-meets};
 ghost use Rattle.problem_defs.specs.declared.ask.Ask.TheVariants as asks;
 ghost use Rattle.problem_defs.specs.declared.cert.Body.TheVariants as bodies;
 ghost use Rattle.std.specs.Prelude.{◌≡◌, ◌≤◌, ℕ, length, false};
 ghost use Rattle.problem_defs.specs.Augment.{half_bound, problem, IsDual};
-ghost use Rattle.problem_defs.specs.AugmentLaw.{law};
+ghost use Rattle.problem_defs.specs.Augment.Law.{law};
 
 use crate::ask::Ask;
 use crate::cert::Body;
@@ -51,7 +51,7 @@ impl Problem for AugmentAsk {
 }
 
 /// Half the sum of k - d over the sides, rounded up.
-#[tactic(auto, using(crate::specs::AugmentLaw::few_members))]
+#[tactic(auto, using(crate::specs::Augment::Law::few_members))]
 fn half_bound(graph: &Graph, k: u32, sides: &Sides) -> u64
     requires low { 2 ≤ k }
     requires high { k ≤ 32 }

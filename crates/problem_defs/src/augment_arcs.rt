@@ -1,9 +1,9 @@
-ghost use Rattle.problem_defs.specs.AugmentArcsCert.{augment_arcs_suits, augment_arcs-meets};
+ghost use Rattle.problem_defs.specs.AugmentArcs.Cert.{augment_arcs_suits, augment_arcs-meets};
 ghost use Rattle.problem_defs.specs.declared.ask.Ask.TheVariants as asks;
 ghost use Rattle.problem_defs.specs.declared.cert.Body.TheVariants as bodies;
 ghost use Rattle.std.specs.Prelude.{◌≡◌, ◌≤◌, ℕ, length, false};
 ghost use Rattle.problem_defs.specs.AugmentArcs.{problem};
-ghost use Rattle.problem_defs.specs.AugmentArcsLaw.{law};
+ghost use Rattle.problem_defs.specs.AugmentArcs.Law.{law};
 ghost use Rattle.problem_defs.specs.Ways.{count_for};
 
 use crate::ask::Ask;
@@ -41,7 +41,7 @@ impl Problem for AugmentArcsAsk {
         object.len() as u64
     }
 
-    #[tactic(auto, using(crate::specs::AugmentArcsLaw::few_members))]
+    #[tactic(auto, using(crate::specs::AugmentArcs::Law::few_members))]
     fn bound(&self, graph: &Graph, dual: &Family) -> u64 {
         graph.known();
         let mut total: u64 = 0;

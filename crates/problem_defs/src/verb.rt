@@ -1,5 +1,4 @@
 ghost use Rattle.std.specs.Prelude.{◌≡◌, ◌≢◌, IfSome, IfNone};
-ghost use Rattle.problem_defs.specs.Built as built;
 ghost use Rattle.problem_defs.specs.Verbs as verbs;
 ghost use Rattle.problem_defs.specs.declared.verb.Verb as verb;
 
@@ -61,13 +60,6 @@ impl Verb {
             Verb::Orient => b"orient",
             Verb::Dijoin => b"dijoin",
         }
-    }
-
-    /// Whether the command is built.
-    pub fn is_built(self) -> bool
-        ensures { result ≡ built.is_built self }
-    {
-        !matches!(self, Verb::Dijoin)
     }
 }
 

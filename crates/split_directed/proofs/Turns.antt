@@ -1,12 +1,14 @@
 -- A turn of splitting off: a pair is split off as often as it may be, and the tight side takes in the one that allows no more.
-use Rattle.std.specs.Prelude.{ℕ, ◌≡◌, ◌≢◌, ◌+◌, ◌<◌, ◌≤◌, ◌==◌, ◌⊎◌, Bool, true, false, List, length, slice_index, slice_index_or, sum, All}
+use Rattle.std.specs.Prelude.{ℕ, ◌≡◌, ◌≢◌, ◌+◌, ◌<◌, ◌≤◌, ◌==◌, ◌⊎◌, Bool, true, false, List, length, slice_index, slice_index_or, sum, replicate, All}
 use Rattle.std.proofs.Common.{sym, ap, subst, ◌∙◌, inl, inr, arith}
 use Rattle.std.proofs.lemmas.Bool.{cases_Bool, eqb-true, eqb-false}
 use Rattle.std.proofs.lemmas.List.Elements.{All-push, All-weaker}
 use Rattle.std.proofs.lemmas.List.Quantifiers.{all_pairs_push}
 use Rattle.std.proofs.lemmas.List.Sums.{get_or-le-sum_by}
+use Rattle.std.proofs.lemmas.List.{length-replicate}
 use Rattle.graph_core.specs.Side.{has}
 use Rattle.graph_core.proofs.NodeCounts.{size_more}
+use Rattle.graph_core.proofs.SideLaws.{has-none}
 use Rattle.cut_fn.specs.Covered.{IsTight}
 use Rattle.problem_defs.specs.declared.cert.Way.{Way}
 use Rattle.split_directed.specs.Ways.{taken_in, value_for}
@@ -14,7 +16,7 @@ use Rattle.split_directed.specs.Allowed.{IsMost}
 use Rattle.split_directed.specs.Rows.{after, AreMost}
 use Rattle.split_directed.specs.StarValue.{StarValue}
 use Rattle.split_directed.specs.State.{rows_with, IsCoveredStar}
-use Rattle.split_directed.specs.Turn.{IsMostUpTo, IsWitness, IsLeft, AreOnce, IsTurn, IsStep}
+use Rattle.split_directed.specs.Turn.{IsMostUpTo, IsWitness, IsLeft, AreOnce, IsBefore, IsTurn, IsStep}
 use Rattle.split_directed.proofs.Rows.{after-push, most-push}
 use Rattle.split_directed.proofs.Splits.{Falls, falls_split, falls_none}
 use Rattle.split_directed.proofs.Stars.{most_of_all, left_outside, Taken, taken, covered_after, tight_without, tight_both}
@@ -51,6 +53,23 @@ falls-with {n} s rows u t c into out lu lt ci co = go (cases_Bool (c == 0))
     go : ((c == 0) ≡ true) ⊎ ((c == 0) ≡ false) → Falls n (after s rows) (after s (rows_with rows u t c)) u t c
     go (inl e) = rw e (subst (λ d. Falls n (after s rows) (after s rows) u t d) (sym (eqb-true c 0 e)) (falls_none (after s rows) u t))
     go (inr e) = rw (e, after-push s rows u t c) (falls_split (after s rows) u t c into out lu lt ci co)
+
+-- before the first try no node is in the tight side
+pub turn_begin : {n k t : ℕ} {s : StarValue} {rows : List (ℕ × ℕ × ℕ)} (w : Way) → IsBefore n k t s rows → IsTurn n k t s rows w (replicate n false)
+turn_begin {n} {k} {t} {s} {rows} w before = record {
+  covered = before.covered;
+  same = before.same;
+  most = before.most;
+  once = before.once;
+  upto = All-weaker (λ r. r.1 < t) (λ r. r.1 ≤ t) (λ r lt. omega arith) rows before.below;
+  done = before.done;
+  tried = All-weaker (λ r. r.1 < t) (λ r. r.1 ≡ t → 1 ≤ slice_index (after s rows).into t → 1 ≤ slice_index (after s rows).out r.0 → has (replicate n false) r.0 ≡ true) (λ r lt is. absurd (omega arith)) rows before.below;
+  witness = record {
+    long = length-replicate n false;
+    tight = λ inside. absurd (let no = sym (has-none n t) ∙ inside in cc);
+    none = λ outside v. has-none n v;
+  };
+}
 
 -- while an arc to t is left, so is one from a node outside of the tight side
 pub turn_next : {n k t : ℕ} {s : StarValue} {rows : List (ℕ × ℕ × ℕ)} {w : Way} {M : List Bool} → IsTurn n k t s rows w M → t < n

@@ -1,6 +1,6 @@
 use Rattle.std.proofs.Common.{◌≡◌, ◌∙◌, ◌≤◌, length, subst, sym}
 use Rattle.problem_defs.specs.Flow.{IsFeasible, IsDual, bound}
-use Rattle.problem_defs.specs.FlowLaw.{law}
+use Rattle.problem_defs.specs.Flow.Law.{law}
 use Rattle.failing_links.proofs.failures_that_part.Goals as goal
 
 pub returns-clause-walks : goal.returns-clause-walks

@@ -13,5 +13,5 @@ returns c =
     let start : c.deref_mut.result.now ≡ replicate c.args.limit false = search rules in
     let long : length c.deref_mut.result.now ≡ c.args.limit = ap length start ∙ length-replicate c.args.limit false in
     subst (λ rows. IsTrue c.mark_rows.result ↔ AreDisjoint rows) c.as_slice.ensures
-    (marked-apart c.args.limit c.deref_mut.result.now c.mark_rows.new.marks c.as_slice.result.now c.mark_rows.result start c.mark_rows.ensures.once
+    (marked-apart c.args.limit c.deref_mut.result.now c.mark_rows.new.marks (concat c.as_slice.result.now) c.mark_rows.result start c.mark_rows.ensures.once
     (subst (λ n. OnFalse c.mark_rows.result ((j : ℕ) × (j < n) × (2 ≤ mark c.deref_mut.result.now j + occurrences j (concat c.as_slice.result.now)))) long c.mark_rows.ensures.twice))

@@ -1,6 +1,6 @@
 use Rattle.std.proofs.Common.{◌≡◌, None, subst}
 use Rattle.problem_defs.specs.Ask.{misfit_of}
-use Rattle.problem_defs.specs.TreeCert.{tree-meets}
+use Rattle.problem_defs.specs.CutTree.Cert.{tree-meets}
 use Rattle.connect_run.proofs.solving.solved.Goals as goal
 
 pub returns-in_ok-cut_tree-in-CutTree-clause-meets : goal.returns-in_ok-cut_tree-in-CutTree-clause-meets

@@ -1,4 +1,4 @@
-use Rattle.std.proofs.Common.{◌≡◌, ◌<◌, ◌≤◌, [], length, replicate, true, sym, ap, ◌∙◌, subst, arith}
+use Rattle.std.proofs.Common.{◌≡◌, ◌<◌, ◌≤◌, ◌^◌, [], length, replicate, true, sym, ap, ◌∙◌, subst, arith, lit<}
 use Rattle.std.specs.Prelude.{sum_by}
 use Rattle.std.proofs.lemmas.Option.{get_or_from_slice_get}
 use Rattle.graph_core.specs.Side.{size, IsNonempty}
@@ -18,6 +18,13 @@ improve-init c =
       nonempty = subst (IsNonempty n) (sym whole) (all-nonempty n (omega arith));
       large = subst (λ X. 2 ≤ size X) (sym whole) (omega (arith, size-all n));
     }
+
+pub lines_of-requires : goal.lines_of-requires
+lines_of-requires c =
+    let found = c.in_ok-rows.field-0 in
+    let most = rows-within c.args.graph.now c.demand_of.result found.rows found.classes c.in_ok-rows.ensures in
+    let room : 65536 < 2 ^ 64 = lit< tt in
+    omega (arith, most, c.known.ensures.makes.few, room)
 
 pub returns-then-lines_of-line_count-clause-certified : goal.returns-then-lines_of-line_count-clause-certified
 returns-then-lines_of-line_count-clause-certified c =

@@ -19,8 +19,8 @@ loop-j-preserved c =
     let before = map (ends_in names) (take at all) in
     let tail = get_or_from_slice_get names line.tail c.name.result.now [] c.name.ensures ∙ sym c.bytes-tail.ensures in
     let head = get_or_from_slice_get names line.head c.name-in-loop-j.result.now [] c.name-in-loop-j.ensures ∙ sym c.bytes-head.ensures in
-    let written : Ends = record { tail = c.bytes-tail.result.now; head = c.bytes-head.result.now; fixed = line.fixed } in
-    let ends : ends_in names line ≡ written = λ i. record { tail = tail i; head = head i; fixed = line.fixed } in
+    let written : Ends = record { tail = c.bytes-tail.result.now; head = c.bytes-head.result.now; fixed = line.fixed; cost = line.cost } in
+    let ends : ends_in names line ≡ written = λ i. record { tail = tail i; head = head i; fixed = line.fixed; cost = line.cost } in
     let lines : map (ends_in names) (take (at + 1) all) ≡ before ++ written ∷ [] = ap (map (ends_in names)) (take_next all at line c.line-line.ensures) ∙ map-append (ends_in names) (take at all) (line ∷ []) ∙ ap (λ e. before ++ e ∷ []) ends in
     let more : flat_map (ends_line kind) (map (ends_in names) (take (at + 1) all)) ≡ flat_map (ends_line kind) before ++ ends_line kind written = ap (flat_map (ends_line kind)) lines ∙ flat_map-push (ends_line kind) before written in
     c.in_ok-push_ends_line.ensures ∙ (λ i. c.loop-j.invariant i ++ ends_line (c.kind.ensures i) written) ∙ append_assoc start (flat_map (ends_line kind) before) (ends_line kind written) ∙ ap (λ l. start ++ l) (sym more)

@@ -8,6 +8,7 @@ use Rattle.graphic_matroid.proofs.RootLaws.{classes_none, roots_none}
 use Rattle.graphic_matroid.proofs.Steps.{classes_without}
 use Rattle.graphic_matroid.proofs.component.join_marked.Goals.{then-item, else-item}
 use Rattle.graphic_matroid.proofs.component.join_marked.Goals as goal
+use Rattle.graph_core.specs.Graph.{no_line}
 
 pub loop-j-init : goal.loop-j-init
 loop-j-init c = record {
@@ -15,9 +16,6 @@ loop-j-init c = record {
   low = λ v l. let z = c.reset.ensures.ranks v l in omega arith;
   classes = classes_none (length c.args.classes.now.parents.items) c.reset.new.self.parents.items c.reset.ensures.parents;
 }
-
-abbrev no_line : Line
-no_line = record { tail = 0; head = 0; fixed = false }
 
 pub loop-j-preserved : goal.loop-j-preserved
 loop-j-preserved c =

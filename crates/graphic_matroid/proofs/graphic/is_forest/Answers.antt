@@ -11,6 +11,7 @@ use Rattle.graphic_matroid.proofs.RootLaws.{classes_none, roots_none}
 use Rattle.graphic_matroid.proofs.Steps.{classes_without, forest_without}
 use Rattle.graphic_matroid.proofs.graphic.is_forest.Goals as goal
 use Rattle.graphic_matroid.proofs.graphic.is_forest.Goals.{else-item-via-then-item+else-not-join_ends, else-item-via-else-item}
+use Rattle.graph_core.specs.Graph.{no_line}
 
 pub loop-j-init : goal.loop-j-init
 loop-j-init c = record {
@@ -19,9 +20,6 @@ loop-j-init c = record {
   classes = classes_none (length c.args.classes.now.parents.items) c.reset.new.self.parents.items c.reset.ensures.parents;
   forest = forest_none (length c.args.classes.now.parents.items);
 }
-
-abbrev no_line : Line
-no_line = record { tail = 0; head = 0; fixed = false }
 
 pub returns-then-not-join_ends-clause-answer : goal.returns-then-not-join_ends-clause-answer
 returns-then-not-join_ends-clause-answer c =

@@ -1,13 +1,10 @@
-use Rattle.std.proofs.Common.{false, ◌≡◌, ◌+◌, ◌++◌, [], ◌∷◌, take, get_or, sym, ap, ◌∙◌, subst, add-one}
+use Rattle.std.proofs.Common.{◌≡◌, ◌+◌, ◌++◌, [], ◌∷◌, take, get_or, sym, ap, ◌∙◌, subst, add-one}
 use Rattle.std.proofs.Math.Seq.{take-suc}
 use Rattle.std.proofs.lemmas.List.{take_all}
-use Rattle.graph_core.specs.declared.graph.Line.{Line}
 use Rattle.certificate_checker.specs.Copies.{cut_count, line_count, CountsMore}
 use Rattle.certificate_checker.proofs.CopyLaws.{more-same, more-both, more-at, count-next}
 use Rattle.certificate_checker.proofs.copies.Copies.add_lines.Goals as goal
-
-abbrev no_line : Line
-no_line = record { tail = 0; head = 0; fixed = false }
+use Rattle.graph_core.specs.Graph.{no_line}
 
 pub loop-line-preserved : goal.loop-line-preserved
 loop-line-preserved c =

@@ -2,14 +2,11 @@ use Rattle.std.proofs.Common.{false, true, arith, length, ◌<◌, ◌≡◌, ta
 use Rattle.std.proofs.lemmas.List.{take_all, get_or_default}
 use Rattle.graph_core.specs.declared.graph.Kind.TheVariants.{Directed}
 use Rattle.problem_defs.specs.Orient.{turned}
-use Rattle.graph_core.specs.declared.graph.Line.{Line}
 use Rattle.certificate_checker.proofs.copies.Copies.add_turned.Goals.{then-heads-j, else-heads-j}
 use Rattle.certificate_checker.specs.Copies.{cut_count, line_count, CountsMore}
 use Rattle.certificate_checker.proofs.CopyLaws.{more-at, more-turned}
 use Rattle.certificate_checker.proofs.copies.Copies.add_turned.Goals as goal
-
-abbrev no_line : Line
-no_line = record { tail = 0; head = 0; fixed = false }
+use Rattle.graph_core.specs.Graph.{no_line}
 
 pub loop-j-preserved : goal.loop-j-preserved
 loop-j-preserved c =

@@ -22,6 +22,6 @@ returns-clause-least c =
     let X = c.reach.new.side in
     let w = (pair_at pairs j).2 in
     let reached : IsReach (length g.names) pairs j X = subst (λ n. IsReach n pairs j X) c.args.self.now.side_long c.reach.ensures in (
-      λ yes. right-pair g pairs c.requires.tree c.requires.nodes j X w c.requires.j reached (sym c.degree.ensures.count ∙ c.if-degree-weight.false) (c.is_least.ensures.least.0 yes),
+      λ yes. right-pair g pairs c.requires.tree j X w c.requires.j reached (sym c.degree.ensures.count ∙ c.if-degree-weight.false) (c.is_least.ensures.least.0 yes),
       λ right. c.is_least.ensures.least.1 right.least,
     )

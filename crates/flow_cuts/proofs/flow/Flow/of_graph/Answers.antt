@@ -1,16 +1,13 @@
 use Rattle.std.proofs.Common.{◌≡◌, ◌∙◌, ℕ, List, length, ap, sym, subst, false}
 use Rattle.std.specs.Prelude.{map, All, IfOk, Some, None}
 use Rattle.graph_core.specs.declared.graph.Kind.{Kind}
-use Rattle.graph_core.specs.Graph.{Fits}
+use Rattle.graph_core.specs.Graph.{Fits, no_line}
 use Rattle.graph_core.specs.declared.graph.Line.{Line}
 use Rattle.flow_cuts.specs.declared.network.Link.{Link}
 use Rattle.flow_cuts.specs.GraphArcs.{arcs_of}
 use Rattle.flow_cuts.specs.Residual.{link_along, AreLinksOf}
 use Rattle.flow_cuts.proofs.LinkLaws.{link_ends, graph_ends, AreLinksOf-graph}
 use Rattle.flow_cuts.proofs.flow.Flow.of_graph.Goals as goal
-
-abbrev no_line : Line
-no_line = record { tail = 0; head = 0; fixed = false }
 
 fits_at : (n m : ℕ) (ls : List Line) → n ≡ m → All (Fits m) ls → All (Fits n) ls
 fits_at n m ls e h = let P : ℕ → Type 0 = λ k. All (Fits k) ls in subst P (sym e) h

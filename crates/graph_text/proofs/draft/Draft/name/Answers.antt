@@ -9,4 +9,4 @@ returns-clause-named c =
     let keys = c.self.inside.names.keys in
     let key = sym c.get_index.ensures.key ∙ ap option_copied c.unwrap.ensures in
     let name : slice_get (map (λ k. k.items) keys) c.args.at ≡ Some c.as_slice.result.now = slice_get-map (λ k. k.items) keys c.args.at ∙ ap (option_map (λ k. k.items)) key ∙ ap Some (sym c.as_slice.ensures.value) in
-    subst IsName (get_or_from_slice_get (map (λ k. k.items) keys) c.args.at _ [] name) (c.self.invariant.named c.args.at [] (slice_get_within (map (λ k. k.items) keys) c.args.at _ name))
+    subst IsName (get_or_from_slice_get (map (λ k. k.items) keys) c.args.at _ [] name) (c.self.invariant.parts.named c.args.at [] (slice_get_within (map (λ k. k.items) keys) c.args.at _ name))

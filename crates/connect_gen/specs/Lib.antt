@@ -1,0 +1,3 @@
+-- Generated graphs.
+pub mod Draws
+pub mod Generated

@@ -1,0 +1,107 @@
+-- The start, and a cost that is raised by one.
+use Rattle.std.specs.Prelude.{false, ℕ, zero, suc, ◌≡◌, ◌≢◌, ◌+◌, ◌<◌, ◌≤◌, List, [], ◌∷◌, length, replicate, slice_set, sum, refl}
+use Rattle.std.proofs.Common.{◌∙◌, subst, arith, inl, inr}
+use Rattle.std.proofs.lemmas.Bool.{cases_eq}
+use Rattle.std.proofs.lemmas.List.{get_or-set_same, get_or-set_other, length-set, length-replicate}
+use Rattle.std.proofs.lemmas.List.Sums.{sum_by-set, sum_by-cons}
+use Rattle.std.proofs.lemmas.Option.{slice_get_within}
+use Rattle.graph_core.specs.Graph.{GraphValue}
+use Rattle.graph_core.specs.declared.graph.Line.{Line}
+use Rattle.problem_defs.specs.Dijoin.{IsFeasible}
+use Rattle.lucchesi_younger.specs.Kept.{at, IsArc, IsIn, IsKept, AllKept, IsLate}
+use Rattle.lucchesi_younger.specs.Spent.{IsRaised}
+use Rattle.lucchesi_younger.specs.declared.work.Work.{Work}
+
+pub at-zeros : (n v : ℕ) → at (replicate n 0) v ≡ 0
+at-zeros zero v = refl
+at-zeros (suc n) zero = refl
+at-zeros (suc n) (suc v) = at-zeros n v
+
+-- lists of numbers, place by place
+pub sum-le-sum : (xs ys : List ℕ) → length xs ≡ length ys → ((j : ℕ) → at xs j ≤ at ys j) → sum xs ≤ sum ys
+sum-le-sum [] ys e h = omega arith
+sum-le-sum (x ∷ xs) [] e h = absurd (omega arith)
+sum-le-sum (x ∷ xs) (y ∷ ys) e h =
+    let first : x ≤ y = h 0 in
+    omega (arith, sum-le-sum xs ys (omega arith) (λ j. h (suc j)), sum_by-cons (λ n. n) x xs, sum_by-cons (λ n. n) y ys)
+
+-- at costs and potentials of 0 any dijoin will do
+pub kept-start : (g : GraphValue) (join : List ℕ) → IsFeasible g join → AllKept g (record { join = join; costs = replicate (length g.lines) 0; potential = replicate (length g.names) 0 })
+kept-start g join f =
+    let none = at-zeros (length g.names) in
+    let free = at-zeros (length g.lines) in
+    record {
+      join = f;
+      costs_long = length-replicate (length g.lines) 0;
+      potential_long = length-replicate (length g.names) 0;
+      low = λ v. omega (arith, none v);
+      rises = λ j l arc. omega (arith, none l.tail);
+      most = λ j l arc _. omega (arith, none l.head);
+      equal = λ j l arc _ _. omega (arith, none l.head, none l.tail, free j);
+      apart = λ x y _ _ less. absurd (omega (arith, none y));
+    }
+
+-- the cost of one arc rises to c
+module _ (g : GraphValue) (w : Work) (k : AllKept g w) (i : ℕ) (below : i < length g.lines) (c : ℕ) (up : at w.costs i ≤ c) where
+  abbrev more : List ℕ
+  more = slice_set w.costs i c
+
+  pub dearer-here : at more i ≡ c
+  dearer-here = get_or-set_same w.costs i c 0 (omega (arith, k.costs_long))
+
+  pub dearer-other : (j : ℕ) → j ≢ i → at more j ≡ at w.costs j
+  dearer-other j ne = get_or-set_other w.costs i j c 0 ne
+
+  not_less : (j : ℕ) → at w.costs j ≤ at more j
+  not_less j = elim (cases_eq j i) [ inl e ↦ rw e (omega (arith, dearer-here)) | inr ne ↦ omega (arith, dearer-other j ne) ]
+
+  pub dearer-sum : sum more + at w.costs i ≡ sum w.costs + c
+  dearer-sum = omega (arith, sum_by-set (λ n. n) w.costs i c 0 (omega (arith, k.costs_long)))
+
+  pub raised-free : IsRaised i c w.costs more false
+  raised-free = record {
+    others = dearer-other;
+    most = omega (arith, dearer-here);
+    sums = omega (arith, dearer-here, dearer-sum);
+    rose = tt;
+    done = dearer-here;
+  }
+
+  -- the arc is late, if it is in the dijoin
+  pub dearer-kept : IsKept g (record { join = w.join; costs = more; potential = w.potential }) i
+  dearer-kept = record {
+    join = k.join;
+    costs_long = length-set w.costs i c ∙ k.costs_long;
+    potential_long = k.potential_long;
+    low = λ v. (let was = k.low v in omega (arith, dearer-sum));
+    rises = k.rises;
+    most = λ j l arc free. (let was = k.most j l arc free in omega (arith, not_less j));
+    equal = λ j l arc in' ne. (let was = k.equal j l arc in' (λ e. absurd (omega (arith, slice_get_within g.lines j l arc))) in omega (arith, dearer-other j ne));
+    apart = k.apart;
+  }
+
+  pub dearer-late : c ≡ at w.costs i + 1 → (l : Line) → IsArc g.lines i l → IsIn w.join i → IsLate g (record { join = w.join; costs = more; potential = w.potential }) i l.tail l.head
+  dearer-late one l arc in' = record {
+    line = l;
+    arc = arc;
+    tail = refl;
+    head = refl;
+    taken = in';
+    behind = (let was = k.equal i l arc in' (λ e. omega arith) in omega (arith, dearer-here));
+    room = λ v. (let was = k.low v in omega (arith, dearer-sum));
+  }
+
+  -- no arc is, if it isn't
+  pub dearer-all : (IsIn w.join i → ⊥) → AllKept g (record { join = w.join; costs = more; potential = w.potential })
+  dearer-all out =
+      let almost = dearer-kept in
+      record {
+        join = almost.join;
+        costs_long = almost.costs_long;
+        potential_long = almost.potential_long;
+        low = almost.low;
+        rises = almost.rises;
+        most = almost.most;
+        equal = λ j l arc in' _. almost.equal j l arc in' (λ e. out (subst (λ x. IsIn w.join x) e in'));
+        apart = almost.apart;
+      }
