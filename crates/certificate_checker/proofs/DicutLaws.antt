@@ -1,12 +1,12 @@
 -- What covers the closed sides, by what enters each proper side.
-use Rattle.std.specs.Prelude.{ℕ, zero, suc, ◌≡◌, ◌+◌, ◌<◌, ◌≤◌, ◌++◌, ◌↔◌, Bool, List, [], ◌∷◌, length, slice_get, get_or, Option, None, Some, All}
+use Rattle.std.specs.Prelude.{ℕ, zero, suc, ◌≡◌, ◌+◌, ◌<◌, ◌≤◌, ◌++◌, ◌↔◌, Bool, false, List, [], ◌∷◌, length, slice_get, get_or, take, count_by, Option, None, Some, All}
 use Rattle.std.specs.List.{cons_option}
 use Rattle.std.proofs.Common.{arith, inl, inr, subst}
-use Rattle.std.proofs.lemmas.List.Elements.{All-head, All-tail}
+use Rattle.std.proofs.lemmas.List.Elements.{All-head, All-tail, All-take, All-weaker}
 use Rattle.std.proofs.lemmas.Bool.{cases_lt}
-use Rattle.std.proofs.lemmas.List.Sums.{sum_by-append, sum_by-cons}
+use Rattle.std.proofs.lemmas.List.Sums.{sum_by-append, sum_by-cons, sum_by-take-le}
 use Rattle.graph_core.specs.Graph.{GraphValue, IsGraph, Fits}
-use Rattle.graph_core.specs.Lines.{leaves, entering, leaving}
+use Rattle.graph_core.specs.Lines.{enters, leaves, entering, leaving}
 use Rattle.graph_core.specs.Picked.{picked}
 use Rattle.graph_core.specs.Side.{has, complement, IsProper}
 use Rattle.graph_core.specs.declared.graph.Line.{Line}
@@ -14,7 +14,7 @@ use Rattle.graph_core.proofs.ConnectedLaws.{entering-complement, leaving-complem
 use Rattle.graph_core.proofs.Counting.{weight, All-picked}
 use Rattle.graph_core.proofs.ProperLaws.{proper-complement}
 use Rattle.flow_cuts.specs.Network.{across}
-use Rattle.problem_defs.specs.Dijoin.{IsClosed}
+use Rattle.problem_defs.specs.Dijoin.{IsClosed, IsDual}
 use Rattle.certificate_checker.specs.Dicuts.{Covers}
 use Rattle.certificate_checker.proofs.CopyLaws.{enters-across}
 
@@ -53,3 +53,11 @@ covers-law g join ok =
             omega (arith, covers (complement X) closed, entering-complement n X p.long (picked g.lines join) picked-fit)
       ],
     )
+
+-- the first ones of right sides are right
+pub dual-take : (g : GraphValue) (P : List (List Bool)) (k : ℕ) → IsDual g P → IsDual g (take k P)
+dual-take g P k d = record {
+  members = All-take (IsClosed g) k P d.members;
+  apart = All-weaker (λ l. l.fixed ≡ false → count_by (λ U. enters U l) P ≤ l.cost) (λ l. l.fixed ≡ false → count_by (λ U. enters U l) (take k P) ≤ l.cost)
+      (λ l apart free. omega (arith, apart free, sum_by-take-le (λ U. weight (enters U l)) P k)) g.lines d.apart;
+}

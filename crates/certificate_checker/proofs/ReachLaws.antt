@@ -8,7 +8,8 @@ use Rattle.graph_core.specs.Side.{has, size, IsOnly}
 use Rattle.graph_core.proofs.PutLaws.{size-only}
 use Rattle.graph_core.proofs.Counting.{weight}
 use Rattle.graph_core.proofs.FamilyLaws.{count_by-le}
-use Rattle.certificate_checker.specs.TreeSides.{pair_at, inside, AreUncrossed, AddsOther, IsGrown, IsReach}
+use Rattle.problem_defs.specs.Pairs.{pair_at}
+use Rattle.certificate_checker.specs.TreeSides.{inside, AreUncrossed, AddsOther, IsGrown, IsReach}
 
 pub grown-same : (pairs : List (ℕ × ℕ × ℕ)) (X : List Bool) → IsGrown pairs X X
 grown-same pairs X = record { long = refl; keeps = λ w h. h; paid = omega arith }

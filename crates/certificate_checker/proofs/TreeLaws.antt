@@ -17,7 +17,8 @@ use Rattle.graph_core.proofs.Counting.{weight, count_by-fails}
 use Rattle.graph_core.proofs.FamilyLaws.{size-nonempty}
 use Rattle.problem_defs.specs.CutTree.{tree_lines, IsSpanningTree, IsLeastCut}
 use Rattle.problem_defs.proofs.TreeLines.{pair_line, length-tree, tree-line, induced-tree, degree-tree}
-use Rattle.certificate_checker.specs.TreeSides.{pair_at, AreUncrossed, IsReach}
+use Rattle.problem_defs.specs.Pairs.{pair_at}
+use Rattle.certificate_checker.specs.TreeSides.{AreUncrossed, IsReach}
 use Rattle.flow_cuts.specs.NodeCuts.{NoneIsLess}
 
 -- X is a side of pair j: it holds the first node and misses the second, and no other pair crosses it

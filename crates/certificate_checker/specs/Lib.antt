@@ -5,6 +5,5 @@ pub mod Flaws
 pub mod Heads
 pub mod FirstLack
 pub mod Malformed
-pub mod Marks
 pub mod Reason
 pub mod TreeSides

@@ -1,13 +1,7 @@
 -- The sides that pairs of nodes cut, as those of a tree do. No public clause cites it.
 use Rattle.std.specs.Prelude.{◌≡◌, ℕ, ◌+◌, ◌<◌, ◌≤◌, Bool, true, false, ◌&&◌, List, length, slice_index_or, remove, count_by, All}
 use Rattle.graph_core.specs.Side.{has, size}
-
-abbrev pub pair_at : List (ℕ × ℕ × ℕ) → ℕ → ℕ × ℕ × ℕ
-pair_at pairs j = slice_index_or pairs j (0, 0, 0)
-
--- the pairs are of n nodes
-abbrev pub AreIn : ℕ → List (ℕ × ℕ × ℕ) → Type 0
-AreIn n pairs = All (λ p. (p.0 < n) × (p.1 < n)) pairs
+use Rattle.problem_defs.specs.Pairs.{pair_at}
 
 -- how many pairs have both nodes in X
 abbrev pub inside : List Bool → List (ℕ × ℕ × ℕ) → ℕ

@@ -1,4 +1,4 @@
-ghost use Rattle.std.specs.Prelude.{◌≡◌, ◌<◌, ◌↔◌, false, All, length, count_by, IsTrue, IfOk};
+ghost use Rattle.std.specs.Prelude.{◌≡◌, ◌<◌, ◌↔◌, false, All, length, count_by, sum_by, IsTrue, IfOk};
 ghost use Rattle.graph_core.specs.Graph.{Fits};
 ghost use Rattle.graph_core.specs.Lines.{enters, leaving};
 ghost use Rattle.graph_core.specs.Picked.{picked};
@@ -11,9 +11,8 @@ ghost use Rattle.certificate_checker.specs.Dicuts.{Covers, IsApart, IsLetBy};
 
 use crate::copies::Copies;
 use crate::decide::Decide;
-use crate::marks::are_distinct;
 use crate::rejection::Rejection;
-use graph_core::{Graph, Kind, Line, NoMemory, Numbers, Side, Sides};
+use graph_core::{Graph, Kind, Line, NoMemory, Numbers, Side, Sides, are_distinct};
 use problem_defs::DijoinAsk;
 use std::alloc::Global;
 
@@ -67,11 +66,11 @@ fn is_closed(graph: &Graph, side: &Side) -> bool
     side.is_proper() && graph.leaving(side) == 0
 }
 
-fn are_closed(graph: &Graph, sides: &Sides) -> bool
+fn are_closed(graph: &Graph, sides: &[Side]) -> bool
     requires { AreSides (length graph.now.names) sides.now }
     ensures { IsTrue result ↔ All (IsClosed graph.now) sides.now }
 {
-    for side in sides.as_slice() {
+    for side in sides {
         if !is_closed(graph, side) {
             return false;
         }
@@ -80,19 +79,18 @@ fn are_closed(graph: &Graph, sides: &Sides) -> bool
 }
 
 /// How many of the sides the arc enters.
-fn entered_by(sides: &Sides, line: Line) -> usize
+fn entered_by(sides: &[Side], line: Line) -> usize
     requires { All (λ X. (line.tail < length X) × (line.head < length X)) sides.now }
     ensures { result ≡ count_by (λ U. enters U line) sides.now }
 {
     sides
-        .as_slice()
         .iter()
         .filter(|side| side.has(line.head) && !side.has(line.tail))
         .count()
 }
 
 /// Whether the arc is fixed, or enters at most as many of the sides as its cost.
-fn is_apart(sides: &Sides, line: Line) -> bool
+fn is_apart(sides: &[Side], line: Line) -> bool
     requires { All (λ X. (line.tail < length X) × (line.head < length X)) sides.now }
     ensures { IsTrue result ↔ IsApart sides.now line }
 {
@@ -100,7 +98,7 @@ fn is_apart(sides: &Sides, line: Line) -> bool
 }
 
 /// Whether each arc that isn't fixed enters at most as many of the sides as its cost.
-fn are_apart(graph: &Graph, sides: &Sides) -> bool
+fn are_apart(graph: &Graph, sides: &[Side]) -> bool
     requires { AreSides (length graph.now.names) sides.now }
     ensures { IsTrue result ↔ All (IsApart sides.now) graph.now.lines }
 {
@@ -111,6 +109,26 @@ fn are_apart(graph: &Graph, sides: &Sides) -> bool
         }
     }
     true
+}
+
+/// Whether the sides are closed, and each arc that isn't fixed enters at most as many of them as its cost.
+fn is_family(graph: &Graph, sides: &[Side]) -> bool
+    requires { AreSides (length graph.now.names) sides.now }
+    ensures { IsTrue result ↔ IsDual graph.now sides.now }
+{
+    are_closed(graph, sides) && are_apart(graph, sides)
+}
+
+/// What the arcs cost together.
+fn total_cost(graph: &Graph) -> usize
+    ensures { result ≡ sum_by (λ l. l.cost) graph.now.lines }
+{
+    graph.known();
+    let mut total = 0;
+    for line in graph.lines() {
+        total += line.cost as usize;
+    }
+    total
 }
 
 /// Whether the arc is fixed or doesn't enter the side.
@@ -163,7 +181,11 @@ impl Decide for DijoinAsk {
         covers(alloc, graph, row)
     }
 
+    // Where there is a dijoin, an arc that isn't fixed enters each closed side. So the first sides, one more than all
+    // arcs cost together, show already that a longer list isn't right, however long it is.
     fn is_dual(&self, graph: &Graph, dual: &Sides) -> bool {
-        are_closed(graph, dual) && are_apart(graph, dual)
+        let sides = dual.as_slice();
+        let some = sides.len().min(total_cost(graph) + 1);
+        is_family(graph, &sides[..some]) && (some == sides.len() || is_family(graph, sides))
     }
 }

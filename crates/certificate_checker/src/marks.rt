@@ -1,29 +1,12 @@
 ghost use Rattle.std.specs.Prelude.{◌≡◌, ℕ, ◌+◌, ◌<◌, ◌≤◌, ◌↔◌, true, All, length, IsTrue, IfOk};
 ghost use Rattle.std.specs.List.{concat};
 ghost use Rattle.std.specs.Bool.{OnTrue, OnFalse};
-ghost use Rattle.graph_core.specs.Picked.{occurrences, IsDistinct};
+ghost use Rattle.graph_core.specs.Picked.{occurrences, mark};
 ghost use Rattle.graph_core.specs.Walks.{AreDisjoint};
 ghost use Rattle.problem_defs.specs.Shaped.{AreRows};
-ghost use Rattle.certificate_checker.specs.Marks.{mark};
 
-use graph_core::{NoMemory, NumberRows, Numbers};
+use graph_core::{NoMemory, NumberRows, Numbers, mark_row};
 use std::alloc::Global;
-
-/// Marks the numbers of a row, up to one that has a mark already.
-fn mark_row(marks: &mut [bool], row: &[u32]) -> bool
-    requires { All (λ j. j < length marks.old) row.now }
-    ensures once { OnTrue result ((j : ℕ) → mark marks.new j ≡ mark marks.old j + occurrences j row.now) }
-    ensures twice { OnFalse result ((j : ℕ) × (j < length marks.old) × (2 ≤ mark marks.old j + occurrences j row.now)) }
-{
-    for j in row {
-        let place = *j as usize;
-        if marks[place] {
-            return false;
-        }
-        marks[place] = true;
-    }
-    true
-}
 
 /// Marks the numbers of all rows, up to one that has a mark already.
 fn mark_rows(marks: &mut [bool], rows: &[Numbers]) -> bool
@@ -47,16 +30,6 @@ pub fn are_disjoint(alloc: Global, limit: usize, rows: &NumberRows) -> Result<bo
 {
     let mut marks = Vec::from_elem(alloc, false, limit)?;
     Ok(mark_rows(&mut marks, rows.as_slice()))
-}
-
-/// Whether no number stands twice.
-pub fn are_distinct(alloc: Global, limit: usize, row: &[u32]) -> Result<bool, NoMemory>
-    requires few { limit ≤ 65536 }
-    requires below { All (λ j. j < limit) row.now }
-    ensures { IfOk result (λ distinct. IsTrue distinct ↔ IsDistinct row.now) }
-{
-    let mut marks = Vec::from_elem(alloc, false, limit)?;
-    Ok(mark_row(&mut marks, row))
 }
 
 /// Whether each number has a mark.

@@ -1,7 +1,8 @@
 ghost use Rattle.std.specs.Prelude.{◌≡◌, ℕ, ◌+◌, ◌<◌, ◌≤◌, ◌++◌, true, false, All, length};
 ghost use Rattle.std.specs.Bool.{OnTrue, OnFalse};
 ghost use Rattle.graph_core.specs.Side.{has, size};
-ghost use Rattle.certificate_checker.specs.TreeSides.{AddsOther, AreIn, AreUncrossed, IsGrown, IsReach};
+ghost use Rattle.problem_defs.specs.Pairs.{AreIn};
+ghost use Rattle.certificate_checker.specs.TreeSides.{AddsOther, AreUncrossed, IsGrown, IsReach};
 
 use graph_core::Side;
 
@@ -41,6 +42,18 @@ fn spread(side: &mut Side, pairs: &[(u32, u32, u64)]) -> bool
     added
 }
 
+/// Adds the other node of each pair that crosses the side, in one pass from the last pair to the first: where each
+/// pair's first node is the second of an earlier pair, the side then has the whole way to the first pair.
+fn spread_back(side: &mut Side, pairs: &[(u32, u32, u64)])
+    requires { AreIn (length side.old) pairs.now }
+    ensures { IsGrown pairs.now side.old side.new }
+{
+    for k in 0..pairs.len() {
+        let pair = pairs[pairs.len() - 1 - k];
+        add_other(side, pair.0, pair.1);
+    }
+}
+
 /// Adds what the pairs connect to the side.
 fn grow(side: &mut Side, before: &[(u32, u32, u64)], behind: &[(u32, u32, u64)])
     requires before { AreIn (length side.old) before.now }
@@ -48,6 +61,7 @@ fn grow(side: &mut Side, before: &[(u32, u32, u64)], behind: &[(u32, u32, u64)])
     ensures grown { IsGrown (before.now ++ behind.now) side.old side.new }
     ensures done { AreUncrossed side.new (before.now ++ behind.now) }
 {
+    spread_back(side, before);
     let mut more = true;
     while more {
         let first = spread(side, before);

@@ -1,12 +1,13 @@
 -- What is read of the words of a line.
-use Rattle.std.proofs.Common.{◌≡◌, ◌≢◌, ℕ, suc, ◌+◌, ◌<◌, ◌≤◌, ◌^◌, Bool, true, false, cond, List, [], ◌∷◌, ◌++◌, length, take, drop, get_or, length-drop, refl, sym, ap, ◌∙◌, append_assoc, append-nil, add-one, All, arith}
+use Rattle.std.proofs.Common.{◌≡◌, ◌≢◌, ℕ, zero, suc, ◌+◌, ◌-◌, ◌<◌, ◌≤◌, ◌^◌, Bool, true, false, cond, List, [], ◌∷◌, ◌++◌, length, take, drop, get_or, length-drop, refl, sym, ap, subst, ◌∙◌, append_assoc, append-nil, add-one, All, arith}
 use Rattle.std.specs.Prelude.{AllPairs}
 use Rattle.std.specs.Fmt.{decimal}
 use Rattle.std.proofs.Math.ListN.{set, length-set}
 use Rattle.std.proofs.Math.Seq.{drop-cons, take-length, drop-length}
-use Rattle.std.proofs.lemmas.List.{take-set, get_or-set_same, get_or-drop}
+use Rattle.std.proofs.lemmas.List.{take-set, get_or-set_same, get_or-set_other, set-get_or, get_or-drop}
 use Rattle.std.proofs.lemmas.Fmt.{decimal_injective}
 use Rattle.std.proofs.lemmas.List.Elements.{All-head, All-tail}
+use Rattle.graph_core.specs.Side.{has}
 use Rattle.certificate_text.specs.Words.{numbers, names_in}
 use Rattle.certificate_text.specs.SideRead.{SideRead}
 use Rattle.certificate_text.proofs.SpellLaws.{first-in}
@@ -45,6 +46,7 @@ side-step names all v X left behind name here apart l is r split other = record 
   long = length-set X v here ∙ r.long;
   front = r.front ∙ ap (λ ws. names_in (take v names) (take v X) ++ ws) (split ∙ ap (λ w. cond here (w ∷ []) [] ++ behind) is) ∙ sym (append_assoc (names_in (take v names) (take v X)) (cond here (get_or names v [] ∷ []) []) behind) ∙ ap (λ ws. ws ++ behind) (sym grown);
   only = λ Y long e. rw add-one (by Y (get_or Y v false) here split other (sym (opened Y long) ∙ r.only Y long e));
+  later = λ u above. get_or-set_other X v u here false (omega arith) ∙ r.later u (omega arith);
 }
   where
     in_side : v < length X
@@ -68,12 +70,29 @@ side-step names all v X left behind name here apart l is r split other = record 
     by Y false true split other e = absurd (not-behind names v (drop (suc v) Y) behind apart l (e ∙ split ∙ ap (λ n. n ∷ behind) is))
     by Y false false split other e = e ∙ split
 
-pub side-start : (names all : List (List ℕ)) (X : List Bool) → length X ≡ length names → SideRead names all 0 X all
-side-start names all X long = record { long = long; front = refl; only = λ Y _ e. e }
+pub side-start : (names all : List (List ℕ)) (X : List Bool) → length X ≡ length names → ((u : ℕ) → has X u ≡ false) → SideRead names all 0 X all
+side-start names all X long blank = record { long = long; front = refl; only = λ Y _ e. e; later = λ u _. blank u }
 
-pub side-done : (names all : List (List ℕ)) (X : List Bool) (left : List (List ℕ)) → SideRead names all (length names) X left → left ≡ [] → names_in names X ≡ all
-side-done names all X left r none =
-    sym (r.front ∙ ap (λ ws. names_in (take (length names) names) (take (length names) X) ++ ws) none ∙ append-nil (names_in (take (length names) names) (take (length names) X)) ∙ ap (λ ns. names_in ns (take (length names) X)) (take-length names) ∙ ap (λ n. names_in names (take n X)) (sym r.long) ∙ ap (names_in names) (take-length X))
+-- a node whose name doesn't come next isn't in the side
+side-skip : (names all : List (List ℕ)) (v : ℕ) (X : List Bool) (left : List (List ℕ)) → AllPairs (λ a b. a ≢ b) names → v < length names → ((more : List (List ℕ)) → left ≡ get_or names v [] ∷ more → ⊥) → SideRead names all v X left → SideRead names all (v + 1) X left
+side-skip names all v X left apart l other r =
+    let same : set X v false ≡ X = ap (set X v) (sym (r.later v (omega arith))) ∙ set-get_or X v false in
+    subst (λ Y. SideRead names all (v + 1) Y left) same (side-step names all v X left left (get_or names v []) false apart l refl r refl (λ _. other))
 
-pub side-lack : (names all : List (List ℕ)) (X : List Bool) (left : List (List ℕ)) → SideRead names all (length names) X left → (left ≡ [] → ⊥) → (Y : List Bool) → length Y ≡ length names → names_in names Y ≡ all → ⊥
-side-lack names all X left r some Y long e = some (sym (r.only Y long e) ∙ ap (λ ns. names_in ns (drop (length names) Y)) (drop-length names))
+pub side-skips : (names all : List (List ℕ)) (d v w : ℕ) (X : List Bool) (left : List (List ℕ)) → w ≡ v + d → AllPairs (λ a b. a ≢ b) names → w ≤ length names → ((u : ℕ) → v ≤ u → u < w → (more : List (List ℕ)) → left ≡ get_or names u [] ∷ more → ⊥) → SideRead names all v X left → SideRead names all w X left
+side-skips names all zero v w X left far apart l other r = subst (λ u. SideRead names all u X left) (omega (arith, far)) r
+side-skips names all (suc d) v w X left far apart l other r =
+    side-skips names all d (v + 1) w X left (omega (arith, far)) apart l (λ u from. other u (omega (arith, from)))
+    (side-skip names all v X left apart (omega (arith, far, l)) (other v (omega arith) (omega (arith, far))) r)
+
+-- where no word is left, the side has been read
+pub side-done : (names all : List (List ℕ)) (v : ℕ) (X : List Bool) (left : List (List ℕ)) → AllPairs (λ a b. a ≢ b) names → v ≤ length names → SideRead names all v X left → left ≡ [] → names_in names X ≡ all
+side-done names all v X left apart l r none =
+    let read = side-skips names all (length names - v) v (length names) X left (omega (arith, l)) apart (omega arith) (λ u _ _ more e. absurd (cc (none, e))) r in
+    sym (read.front ∙ ap (λ ws. names_in (take (length names) names) (take (length names) X) ++ ws) none ∙ append-nil (names_in (take (length names) names) (take (length names) X)) ∙ ap (λ ns. names_in ns (take (length names) X)) (take-length names) ∙ ap (λ n. names_in names (take n X)) (sym r.long) ∙ ap (names_in names) (take-length X))
+
+-- where the next word names no later node, no side has all the names
+pub side-lack : (names all : List (List ℕ)) (v : ℕ) (X : List Bool) (word : List ℕ) (more : List (List ℕ)) → AllPairs (λ a b. a ≢ b) names → v ≤ length names → ((u : ℕ) → v ≤ u → u < length names → get_or names u [] ≢ word) → SideRead names all v X (word ∷ more) → (Y : List Bool) → length Y ≡ length names → names_in names Y ≡ all → ⊥
+side-lack names all v X word more apart l missing r Y long e =
+    let read = side-skips names all (length names - v) v (length names) X (word ∷ more) (omega (arith, l)) apart (omega arith) (λ u from within _ same. missing u from within (sym cc)) r in
+    absurd (cc (read.only Y long e, ap (λ ns. names_in ns (drop (length names) Y)) (drop-length names)))

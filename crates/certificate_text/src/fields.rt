@@ -1,7 +1,8 @@
-ghost use Rattle.std.specs.Prelude.{◌≡◌, ◌≢◌, ◌↔◌, ◌+◌, ◌<◌, ◌≤◌, ◌^◌, ◌∷◌, [], ℕ, List, All, IfOk, IsTrue, MatchOption, codes, length};
+ghost use Rattle.std.specs.Prelude.{◌≡◌, ◌≢◌, ◌↔◌, ◌+◌, ◌<◌, ◌≤◌, ◌^◌, ◌∷◌, [], ℕ, List, All, IfOk, IfSome, IfNone, IsTrue, MatchOption, codes, length};
 ghost use Rattle.std.specs.Fmt.{decimal};
 ghost use Rattle.problem_defs.specs.Ask.{IsK};
 ghost use Rattle.certificate_text.specs.Finds.{Finds};
+ghost use Rattle.certificate_text.specs.SideRead.{IsMissing, IsNext};
 ghost use Rattle.certificate_text.specs.WordsLeft.{words_left};
 ghost use Rattle.certificate_text.specs.Words as words_of;
 
@@ -59,18 +60,26 @@ pub fn only_node(graph: &Graph, words: WordsLeft<'_>) -> Option<u32>
     node(graph, word)
 }
 
-// The node of this name.
-fn node(graph: &Graph, word: &[u8]) -> Option<u32>
-    ensures { Finds (λ v. v < length graph.now.names) (words_of.name_of graph.now) word.now result }
+/// The first node of this name from node `from` on.
+fn node_from(graph: &Graph, from: usize, word: &[u8]) -> Option<u32>
+    ensures some { IfSome result (IsNext graph.now from word.now) }
+    ensures none { IfNone result (IsMissing graph.now from (length graph.now.names) word.now) }
 {
     graph.known();
-    for v in 0..graph.node_count() {
+    for v in from..graph.node_count() {
         let name = graph.name(v as u32).bytes();
         if name == word {
             return Some(v as u32);
         }
     }
     None
+}
+
+/// The node of this name.
+fn node(graph: &Graph, word: &[u8]) -> Option<u32>
+    ensures { Finds (λ v. v < length graph.now.names) (words_of.name_of graph.now) word.now result }
+{
+    node_from(graph, 0, word)
 }
 
 /// The nodes whose names are the next two words, and the words behind them.
@@ -176,14 +185,14 @@ pub fn side(alloc: Global, graph: &Graph, words: WordsLeft<'_>) -> Result<Option
     graph.known();
     let mut side = Side::empty(alloc, graph.node_count())?;
     let mut left = words;
-    for v in 0..graph.node_count() {
-        let (here, behind) = after_word(graph.name(v as u32).bytes(), left);
-        side.put(v as u32, here);
+    let mut from = 0;
+    while let Some((word, behind)) = next_word(left) {
+        let Some(v) = node_from(graph, from, word) else {
+            return Ok(None);
+        };
+        side.put(v, true);
+        from = v as usize + 1;
         left = behind;
     }
-    if is_done(left) {
-        Ok(Some(side))
-    } else {
-        Ok(None)
-    }
+    Ok(Some(side))
 }

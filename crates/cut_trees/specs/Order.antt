@@ -4,15 +4,7 @@ use Rattle.graph_core.specs.Graph.{GraphValue}
 use Rattle.graph_core.specs.Side.{has, size}
 use Rattle.graph_core.specs.Lines.{degree}
 use Rattle.problem_defs.specs.CutTree.{tree_lines, IsLeastCut}
-
-abbrev pub no_pair : ℕ × ℕ × ℕ
-no_pair = (0, 0, 0)
-
-abbrev pub pair_at : List (ℕ × ℕ × ℕ) → ℕ → ℕ × ℕ × ℕ
-pair_at ps j = slice_index_or ps j no_pair
-
-abbrev pub AreIn : ℕ → List (ℕ × ℕ × ℕ) → Type 0
-AreIn n ps = All (λ p. (p.0 < n) × (p.1 < n)) ps
+use Rattle.problem_defs.specs.Pairs.{pair_at, AreIn}
 
 -- with its nodes exchanged, unless the first one is in
 abbrev pub outward : Bool → ℕ × ℕ × ℕ → ℕ × ℕ × ℕ

@@ -3,7 +3,8 @@ ghost use Rattle.graph_core.specs.Graph.{GraphValue, Fits};
 ghost use Rattle.graph_core.specs.Lines.{differ};
 ghost use Rattle.graph_core.specs.Side.{has};
 ghost use Rattle.problem_defs.specs.CutTree.{IsCutTree};
-ghost use Rattle.cut_trees.specs.Order.{pair_at, AreIn, outward, IsSearched};
+ghost use Rattle.problem_defs.specs.Pairs.{pair_at, AreIn};
+ghost use Rattle.cut_trees.specs.Order.{outward, IsSearched};
 
 use graph_core::Side;
 

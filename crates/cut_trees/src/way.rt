@@ -1,5 +1,6 @@
 ghost use Rattle.std.specs.Prelude.{◌≡◌, ◌≢◌, ◌<◌, ◌≤◌, ◌+◌, ℕ, length};
-ghost use Rattle.cut_trees.specs.Order.{AreIn, IsOrdered, IsReached};
+ghost use Rattle.problem_defs.specs.Pairs.{AreIn};
+ghost use Rattle.cut_trees.specs.Order.{IsOrdered, IsReached};
 ghost use Rattle.cut_trees.specs.Way.{IsCutAt, IsLeastOnWay};
 
 use crate::order::Pair;

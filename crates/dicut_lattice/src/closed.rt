@@ -4,9 +4,9 @@ ghost use Rattle.problem_defs.specs.Dijoin.{IsClosed, IsFeasible, Forbids};
 ghost use Rattle.dicut_lattice.specs.Uncovered.{NoneForbids, IsUncovered, AreCovered};
 ghost use Rattle.dicut_lattice.specs.Networks.{AreArcs};
 
-use crate::picks::{are_distinct, are_free, free_lines, picked_lines};
+use crate::picks::{are_free, free_lines, picked_lines};
 use crate::search::Search;
-use graph_core::{Graph, Line, NoMemory, Numbers, Side};
+use graph_core::{Graph, Line, NoMemory, Numbers, Side, are_distinct};
 use std::alloc::Global;
 
 /// Whether the side is proper and no arc leaves it.

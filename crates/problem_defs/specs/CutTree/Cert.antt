@@ -11,6 +11,7 @@ use Rattle.problem_defs.specs.Ask.{misfit_of}
 use Rattle.problem_defs.specs.CutTree.{tree_lines, IsLeastCut, IsCutTree}
 use Rattle.problem_defs.specs.Few.{small as few}
 use Rattle.problem_defs.specs.Meets.{Meets}
+use Rattle.problem_defs.specs.Pairs.{AreIn}
 use Rattle.problem_defs.specs.declared.ask.Ask.TheVariants.{CutTree}
 use Rattle.problem_defs.specs.declared.cert.Body.TheVariants.{Tree}
 
@@ -36,9 +37,6 @@ weight-le g pairs u v w u_in v_in apart cut =
     let n = length g.names in
     let le = cut.least (only n u) (only-long n u) (only-tells n u v u_in v_in apart) in
     omega (arith, le, count_by-le-length (crosses (only n u)) g.lines)
-
-abbrev AreIn : ℕ → List (ℕ × ℕ × ℕ) → Type 0
-AreIn n pairs = All (λ p. (p.0 < n) × (p.1 < n)) pairs
 
 abbrev AreSmall : List (ℕ × ℕ × ℕ) → Type 0
 AreSmall pairs = All (λ p. p.2 < 2 ^ 64) pairs

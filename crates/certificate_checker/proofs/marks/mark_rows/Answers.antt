@@ -1,7 +1,6 @@
 use Rattle.std.proofs.Common.{◌≡◌, ◌∙◌, ◌+◌, ◌≤◌, ap, take, get_or, arith}
 use Rattle.std.specs.List.{concat}
-use Rattle.graph_core.specs.Picked.{occurrences}
-use Rattle.certificate_checker.specs.Marks.{mark}
+use Rattle.graph_core.specs.Picked.{occurrences, mark}
 use Rattle.certificate_checker.proofs.MarkLaws.{row-more, row-more-le}
 use Rattle.certificate_checker.proofs.marks.mark_rows.Goals as goal
 

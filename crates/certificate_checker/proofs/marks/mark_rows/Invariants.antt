@@ -1,7 +1,6 @@
 use Rattle.std.proofs.Common.{◌≡◌, ℕ, ◌+◌, take}
 use Rattle.std.specs.List.{concat}
-use Rattle.graph_core.specs.Picked.{occurrences}
-use Rattle.certificate_checker.specs.Marks.{mark}
+use Rattle.graph_core.specs.Picked.{occurrences, mark}
 use Rattle.certificate_checker.proofs.marks.mark_rows.Given as goal
 
 abbrev pub invariant-loop-row : goal.invariant-loop-row

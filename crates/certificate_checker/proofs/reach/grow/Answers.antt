@@ -3,7 +3,11 @@ use Rattle.certificate_checker.proofs.ReachLaws.{grown-same, grown-on, grown-bot
 use Rattle.certificate_checker.proofs.reach.grow.Goals as goal
 
 pub loop-more-init : goal.loop-more-init
-loop-more-init c = record { grown = grown-same (c.args.before.now ++ c.args.behind.now) c.args.side.now; done = tt }
+loop-more-init c =
+    let a = c.args.before.now in
+    let b = c.args.behind.now in
+    let Y = c.spread_back.new.side in
+    record { grown = grown-both a b c.args.side.now Y Y c.spread_back.ensures (grown-same b Y); done = tt }
 
 pub loop-more-preserved-then-first : goal.loop-more-preserved-then-first
 loop-more-preserved-then-first c =

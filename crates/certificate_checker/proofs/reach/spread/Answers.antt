@@ -2,7 +2,8 @@ use Rattle.std.proofs.Common.{◌≡◌, subst}
 use Rattle.std.proofs.lemmas.List.{take_all}
 use Rattle.std.specs.Bool.{OnFalse}
 use Rattle.graph_core.specs.Side.{has}
-use Rattle.certificate_checker.specs.TreeSides.{pair_at, AddsOther, AreUncrossed}
+use Rattle.problem_defs.specs.Pairs.{pair_at}
+use Rattle.certificate_checker.specs.TreeSides.{AddsOther, AreUncrossed}
 use Rattle.certificate_checker.proofs.ReachLaws.{spread-first, spread-across, spread-along}
 use Rattle.certificate_checker.proofs.reach.spread.Goals as goal
 use Rattle.certificate_checker.proofs.reach.spread.Goals.{then-add_other, else-add_other}

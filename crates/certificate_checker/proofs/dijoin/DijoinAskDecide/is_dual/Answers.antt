@@ -1,4 +1,1 @@
 use Rattle.certificate_checker.proofs.dijoin.DijoinAskDecide.is_dual.Goals as goal
-
-pub returns-then-are_closed : goal.returns-then-are_closed
-returns-then-are_closed c = (λ apart. record { members = c.are_closed.ensures.0 c.if-are_closed.true; apart = c.are_apart.ensures.0 apart }, λ dual. c.are_apart.ensures.1 dual.apart)

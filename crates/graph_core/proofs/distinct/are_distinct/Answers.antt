@@ -2,9 +2,9 @@ use Rattle.std.proofs.Common.{◌≡◌, ◌∙◌, ◌+◌, ◌<◌, ◌≤◌,
 use Rattle.std.specs.Bool.{OnFalse}
 use Rattle.std.proofs.lemmas.List.{length-replicate}
 use Rattle.graph_core.specs.Picked.{occurrences}
-use Rattle.certificate_checker.specs.Marks.{mark}
-use Rattle.certificate_checker.proofs.MarkLaws.{marked-apart}
-use Rattle.certificate_checker.proofs.marks.are_distinct.Goals as goal
+use Rattle.graph_core.specs.Picked.{mark}
+use Rattle.graph_core.proofs.MarkLaws.{marked-apart}
+use Rattle.graph_core.proofs.distinct.are_distinct.Goals as goal
 
 pub returns : goal.returns
 returns c =

@@ -1,7 +1,7 @@
 use Rattle.std.proofs.Common.{refl}
-use Rattle.certificate_checker.specs.Marks.{mark}
-use Rattle.certificate_checker.proofs.MarkLaws.{mark-twice}
-use Rattle.certificate_checker.proofs.marks.mark_row.Goals as goal
+use Rattle.graph_core.specs.Picked.{mark}
+use Rattle.graph_core.proofs.MarkLaws.{mark-twice}
+use Rattle.graph_core.proofs.distinct.mark_row.Goals as goal
 use Rattle.std.proofs.Common.{get_or}
 
 pub returns-then-marks-place-clause-twice : goal.returns-then-marks-place-clause-twice
