@@ -5,7 +5,9 @@ ghost use Rattle.word_sides.specs.Words.{IsClean, room, value, values, without};
 ghost use lib.Lanes.{zip2};
 
 use crate::NoRoom;
-use crate::lanes::{complement_words, join_words, meet_words, minus_words, part_words, put_value};
+use crate::lanes::{
+    complement_words, copy_words, join_words, meet_words, minus_words, part_words, put_value,
+};
 use std::alloc::Global;
 
 /// How many values are held without an allocation.
@@ -102,8 +104,8 @@ impl Held {
         ensures words { words_of self.new ≡ other.now }
     {
         match self {
-            Held::Few { words, .. } => words.copy_from_slice(other),
-            Held::Many { words, .. } => words.copy_from_slice(other),
+            Held::Few { words, .. } => copy_words(words, other),
+            Held::Many { words, .. } => copy_words(words, other),
         }
     }
 

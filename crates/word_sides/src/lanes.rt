@@ -74,6 +74,16 @@ pub fn same_words(xs: &[u64], ys: &[u64]) -> bool
     xs == ys
 }
 
+/// Makes the words equal to the others.
+pub fn copy_words(into: &mut [u64], other: &[u64])
+    requires { length into.old ≡ length other.now }
+    ensures { into.new ≡ other.now }
+{
+    for j in 0..into.len() {
+        into[j] = other[j];
+    }
+}
+
 pub fn join_words(into: &mut [u64], other: &[u64])
     requires { length into.old ≡ length other.now }
     ensures { into.new ≡ zip2 bit_or into.old other.now }
