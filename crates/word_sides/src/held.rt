@@ -13,12 +13,15 @@ use std::alloc::Global;
 /// How many values are held without an allocation.
 const FEW: usize = 128;
 
-/// `len` truth values in words. The tag and a length of 32 bits share a word, so that this takes 32 bytes.
+/// `len` truth values in words: at most 128 in the value itself, more in an allocation.
 #[derive(Debug, Drop)]
 pub enum Held {
     Few { len: u32, words: [u64; 2] },
     Many { len: u32, words: Vec<u64> },
 }
+
+// (the tag and a length of 32 bits share a word)
+const _: () = prove!(size_of::<Held>() == 32);
 
 impl Held {
     /// `n` values, all false.
@@ -142,6 +145,7 @@ impl Held {
         }
     }
 
+    /// Keeps set in each of the two what isn't set in both.
     pub fn part(&mut self, other: &mut Held)
         requires { length (words_of self.old) ≡ length (words_of other.old) }
         ensures len { len_of self.new ≡ len_of self.old }
@@ -155,6 +159,7 @@ impl Held {
         }
     }
 
+    /// The same, with words that stand anywhere.
     fn part_from(&mut self, other: &mut [u64])
         requires { length other.old ≡ length (words_of self.old) }
         ensures len { len_of self.new ≡ len_of self.old }
