@@ -73,6 +73,11 @@ grown-both before behind X Y Z a b = record {
       );
 }
 
+pub grown-step : (pairs : List (ℕ × ℕ × ℕ)) (X Y Z : List Bool) (i : ℕ) (added : Bool) → IsGrown pairs X Y → i < length pairs → OnTrue added (AddsOther (pair_at pairs i).0 (pair_at pairs i).1 Y Z)
+    → OnFalse added ((Z ≡ Y) × (has Y (pair_at pairs i).0 ≡ has Y (pair_at pairs i).1)) → IsGrown pairs X Z
+grown-step pairs X Y Z i true grown l across along = grown-on pairs X Y Z grown (grown-other pairs Y Z i l across)
+grown-step pairs X Y Z i false grown l across along = subst (IsGrown pairs X) (sym along.0) grown
+
 -- a pass that has come to pair i
 pub record IsSpread (pairs : List (ℕ × ℕ × ℕ)) (X Y : List Bool) (i : ℕ) (added : Bool) : Type 0 where
   pub grown : IsGrown pairs X Y
