@@ -1,5 +1,5 @@
 -- What an ask for arborescences without a misfit means, and that a certified packing of them is a certificate that meets its graph.
-use Rattle.std.proofs.Common.{ℕ, ◌≡◌, ◌<◌, List, Bool, length, None, All, refl, arith, lit<, not, nat_le}
+use Rattle.std.proofs.Common.{ℕ, ◌≡◌, ◌<◌, List, Bool, length, None, All, refl, arith, not, nat_le}
 use Rattle.std.proofs.lemmas.List.Elements.{All-weaker}
 use Rattle.std.proofs.lemmas.List.Sums.{count_by-le-length}
 use Rattle.graph_core.specs.Graph.{GraphValue, IsGraph}

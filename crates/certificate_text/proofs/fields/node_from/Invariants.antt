@@ -1,4 +1,3 @@
-use Rattle.std.proofs.Common.{◌≤◌, length}
 use Rattle.certificate_text.specs.SideRead.{IsMissing}
 use Rattle.certificate_text.proofs.fields.node_from.Given as goal
 
