@@ -1,5 +1,5 @@
-ghost use Rattle.std.specs.Prelude.{◌≡◌, ◌<◌, ◌≤◌, ◌&&◌, ◌||◌, ℕ, length, IfOk};
-ghost use Rattle.dicut_lattice.specs.Reach.{leads, AreSquare, AreRows, IsReach};
+ghost use Rattle.std.specs.Prelude.{◌≡◌, ◌≢◌, ◌<◌, ℕ, [], length, IfOk};
+ghost use Rattle.dicut_lattice.specs.Reach.{leads, leads_by, AreSquare, AreRows, LeadsTo, LeadsOn, IsReach};
 
 use graph_core::{Graph, NoMemory, Side, Sides};
 use std::alloc::Global;
@@ -31,7 +31,7 @@ impl<'a> Reach<'a> {
         graph.known();
         let mut rows = first_rows(alloc, graph)?;
         for k in 0..graph.node_count() as u32 {
-            go_on(&mut rows, k);
+            lead_on(&mut rows, k);
         }
         Ok(Reach { graph, rows })
     }
@@ -47,23 +47,22 @@ impl<'a> Reach<'a> {
 
 /// For each node itself and the heads of its arcs.
 fn first_rows(alloc: Global, graph: &Graph) -> Result<Sides, NoMemory>
-    ensures { IfOk result (AreRows graph.now) }
+    ensures { IfOk result (AreRows graph.now graph.now.lines) }
 {
     graph.known();
-    let mut rows = own_rows(alloc, graph.node_count())?;
+    let mut rows = own_rows(alloc, graph)?;
     for line in graph.lines() {
-        rows.item_mut(line.tail as usize).put(line.head, true);
+        lead(&mut rows, line.tail, line.head);
     }
     Ok(rows)
 }
 
-/// For each of `n` nodes itself.
-fn own_rows(alloc: Global, n: usize) -> Result<Sides, NoMemory>
-    requires { n ≤ 4096 }
-    ensures square { IfOk result (AreSquare n) }
-    ensures own { IfOk result (λ rows. (v w : ℕ) → leads rows v w ≡ true → v ≡ w) }
-    ensures here { IfOk result (λ rows. (v : ℕ) → v < n → leads rows v v ≡ true) }
+/// For each node itself.
+fn own_rows(alloc: Global, graph: &Graph) -> Result<Sides, NoMemory>
+    ensures { IfOk result (AreRows graph.now []) }
 {
+    graph.known();
+    let n = graph.node_count();
     let mut rows = Sides::new(alloc);
     for v in 0..n as u32 {
         let mut row = Side::empty(alloc, n)?;
@@ -73,17 +72,38 @@ fn own_rows(alloc: Global, n: usize) -> Result<Sides, NoMemory>
     Ok(rows)
 }
 
-/// Joins the row of a node to each row that has the node.
-fn go_on(rows: &mut Sides, k: u32)
+/// Puts node `w` into the row of `v`.
+fn lead(rows: &mut Sides, v: u32, w: u32)
+    requires square { AreSquare (length rows.old) rows.old }
+    requires v_in { v < length rows.old }
+    requires w_in { w < length rows.old }
+    ensures { LeadsTo v w rows.old rows.new }
+{
+    rows.item_mut(v as usize).put(w, true);
+}
+
+/// Joins the row of node `k` to each row that has it.
+fn lead_on(rows: &mut Sides, k: u32)
     requires square { AreSquare (length rows.old) rows.old }
     requires k_in { k < length rows.old }
-    requires few { length rows.old ≤ 4096 }
-    ensures square { AreSquare (length rows.old) rows.new }
-    ensures on { (v w : ℕ) → leads rows.new v w ≡ (leads rows.old v w || (leads rows.old v k && leads rows.old k w)) }
+    ensures { LeadsOn k rows.old rows.new }
 {
     for v in 0..rows.len() {
-        if v != k as usize && rows.item(v).has(k) {
-            rows.join_items(v, k as usize);
-        }
+        join_row(rows, v, k);
     }
+}
+
+/// Joins the row of node `k` to that of `v`, if that has `k`.
+fn join_row(rows: &mut Sides, v: usize, k: u32)
+    requires square { AreSquare (length rows.old) rows.old }
+    requires v_in { v < length rows.old }
+    requires k_in { k < length rows.old }
+    ensures square { AreSquare (length rows.old) rows.new }
+    ensures here { (w : ℕ) → leads rows.new v w ≡ leads_by k rows.old v w }
+    ensures others { (u w : ℕ) → u ≢ v → leads rows.new u w ≡ leads rows.old u w }
+{
+    if v == k as usize || !rows.item(v).has(k) {
+        return;
+    }
+    rows.join_items(v, k as usize);
 }
