@@ -1,22 +1,22 @@
 -- Rows of nodes: they begin with each node and the heads of its arcs, and go on from node to node until each is what its node reaches.
-use Rattle.std.specs.Prelude.{ℕ, ◌≡◌, ◌≢◌, ◌+◌, ◌<◌, Bool, true, false, not, ◌&&◌, ◌||◌, ◌⊎◌, List, [], ◌∷◌, ◌++◌, length, slice_index_or, slice_set, slice_get, Some, All, refl}
+use Rattle.std.specs.Prelude.{ℕ, ◌≡◌, ◌≢◌, ◌+◌, ◌<◌, ◌≤◌, Bool, true, false, not, ◌&&◌, ◌||◌, ◌⊎◌, List, [], ◌∷◌, ◌++◌, length, slice_index_or, slice_set, slice_get, Some, All, refl}
 use Rattle.std.proofs.Common.{ap, sym, ◌∙◌, inl, inr, arith, subst, length-append}
 use Rattle.std.proofs.lemmas.Bool.{cases_eq, cases_lt}
 use Rattle.std.proofs.lemmas.List.{length-set, get_or-set_same, get_or-set_other, get_or_past, get_or_push, get_or_append_left}
+use Rattle.std.proofs.lemmas.Simd.{length-zip2}
 use Rattle.std.proofs.lemmas.List.Elements.{All-get_or, All-set, All-push, All-weaker, All-nil}
 use Rattle.graph_core.specs.Graph.{GraphValue, Fits}
 use Rattle.graph_core.specs.Side.{has, join, IsOnly}
 use Rattle.graph_core.specs.Lines.{leaves, leaving}
 use Rattle.graph_core.specs.declared.graph.Line.{Line}
 use Rattle.graph_core.proofs.Counting.{none-pass, count_by-fails, All-both}
-use Rattle.graph_core.proofs.PutLaws.{put_here, put_kept}
 use Rattle.graph_core.proofs.SideLaws.{has-below}
 use Rattle.dicut_lattice.specs.Reach.{IsReach, leads, leads_by, AreSquare, AreRows, AreOwn, LeadsTo, LeadsOn, LeadOnBelow, AreReached}
 use Rattle.dicut_lattice.proofs.ClosedSides.{has-join, not_out, never_out}
 
 -- one row is exchanged
 pub row-long : {n : ℕ} (rows : List (List Bool)) → AreSquare n rows → (v : ℕ) → v < n → length (slice_index_or rows v []) ≡ n
-row-long rows s v l = let e = s.count in All-get_or _ rows v [] (omega arith) s.long
+row-long {n} rows s v l = let e = s.count in All-get_or (λ R. length R ≡ n) rows v [] (omega arith) s.long
 
 pub square-set : {n : ℕ} (rows : List (List Bool)) (v : ℕ) (R : List Bool) → AreSquare n rows → length R ≡ n → AreSquare n (slice_set rows v R)
 square-set {n} rows v R s long = record { count = length-set rows v R ∙ s.count; long = All-set (λ X. length X ≡ n) rows v R long s.long }
@@ -31,43 +31,47 @@ leads-other rows v u w R ne = ap (λ X. has X w) (get_or-set_other rows v u R []
 pub in_row : {n : ℕ} (rows : List (List Bool)) → AreSquare n rows → (v w : ℕ) → v < n → leads rows v w ≡ true → w < n
 in_row rows s v w l h = let e = row-long rows s v l in omega (arith, has-below (slice_index_or rows v []) w h)
 
-put_only : (X : List Bool) (w y : ℕ) → has (slice_set X w true) y ≡ true → (has X y ≡ true) ⊎ (y ≡ w)
-put_only X w y h =
-    elim (cases_eq y w) [
-      | inl e ↦ inr e
-      | inr ne ↦ inl (sym (get_or-set_other X w y true false ne) ∙ h)
+-- the row of k is joined to that of v
+module _ (rows : List (List Bool)) (s : AreSquare (length rows) rows) (v k : ℕ) (v_in : v < length rows) (k_in : k < length rows) where
+  alike : length (slice_index_or rows v []) ≡ length (slice_index_or rows k [])
+  alike = row-long rows s v v_in ∙ sym (row-long rows s k k_in)
+
+  abbrev both : List Bool
+  both = join (slice_index_or rows v []) (slice_index_or rows k [])
+
+  pub join-square : AreSquare (length rows) (slice_set rows v both)
+  join-square = square-set rows v both s (length-zip2 ◌||◌ (slice_index_or rows v []) (slice_index_or rows k []) alike ∙ row-long rows s v v_in)
+
+  pub join-leads : leads rows v k ≡ true → (w : ℕ) → leads (slice_set rows v both) v w ≡ leads_by k rows v w
+  join-leads has_k w =
+      leads-set rows v w both v_in
+      ∙ has-join (slice_index_or rows v []) (slice_index_or rows k []) w alike
+      ∙ same (leads rows v w) (leads rows v k) (leads rows k w) has_k
+    where
+      same : (a b c : Bool) → b ≡ true → (a || c) ≡ (a || (b && c))
+      same a b c h = grind arith
+
+-- rows of which those below v are made
+module _ (k v : ℕ) (first rows new : List (List Bool)) (done : (u w : ℕ) → u < v → leads rows u w ≡ leads_by k first u w) (left : (u w : ℕ) → v ≤ u → leads rows u w ≡ leads first u w) where
+  -- that of k stays
+  row_k : (w : ℕ) → leads rows k w ≡ leads first k w
+  row_k w = elim (cases_lt k v) [
+    | inl l ↦ done k w l ∙ absorbed (leads first k w) (leads first k k)
+    | inr past ↦ left k w past
+  ]
+    where
+      absorbed : (a b : Bool) → (a || (b && a)) ≡ a
+      absorbed a b = grind arith
+
+  module _ (here : (w : ℕ) → leads new v w ≡ leads_by k rows v w) (others : (u w : ℕ) → u ≢ v → leads new u w ≡ leads rows u w) where
+    pub done-more : (u w : ℕ) → u < v + 1 → leads new u w ≡ leads_by k first u w
+    done-more u w l = elim (cases_eq u v) [
+      | inl e ↦ rw e (here w ∙ (λ t. left v w (omega arith) t || (left v k (omega arith) t && row_k w t)))
+      | inr ne ↦ others u w ne ∙ done u w (omega arith)
     ]
 
-pub leads_to : (rows : List (List Bool)) → AreSquare (length rows) rows → (v w : ℕ) → v < length rows → w < length rows → (R : List Bool) → R ≡ slice_set (slice_index_or rows v []) w true → LeadsTo v w rows (slice_set rows v R)
-leads_to rows s v w v_in w_in R is =
-    let X = slice_index_or rows v [] in
-    let long : length X ≡ length rows = row-long rows s v v_in in
-    let at : (y : ℕ) → leads (slice_set rows v R) v y ≡ has (slice_set X w true) y = λ y. leads-set rows v y R v_in ∙ ap (λ Z. has Z y) is in
-    record {
-      square = square-set rows v R s (ap length is ∙ length-set X w true ∙ long);
-      kept = λ x y h. elim (cases_eq x v) [
-        | inl e ↦ rw e (at y ∙ put_kept X w y (rw e at h))
-        | inr ne ↦ leads-other rows v x y R ne ∙ h
-      ];
-      here = at w ∙ put_here X w (omega arith);
-      only = λ x y h. elim (cases_eq x v) [
-        | inl e ↦ elim (put_only X w y (sym (at y) ∙ (rw e at h))) [
-            | inl old ↦ inl (rw e old)
-            | inr same ↦ inr (e, same)
-          ]
-        | inr ne ↦ inl (sym (leads-other rows v x y R ne) ∙ h)
-      ];
-    }
-
--- the rows of k and v
-joined_row : (rows : List (List Bool)) → AreSquare (length rows) rows → (v k : ℕ) → v < length rows → k < length rows → leads rows v k ≡ true → (w : ℕ)
-    → has (join (slice_index_or rows v []) (slice_index_or rows k [])) w ≡ leads_by k rows v w
-joined_row rows s v k v_in k_in has_k w =
-    has-join (slice_index_or rows v []) (slice_index_or rows k []) w (row-long rows s v v_in ∙ sym (row-long rows s k k_in))
-    ∙ same (leads rows v w) (leads rows v k) (leads rows k w) has_k
-  where
-    same : (a b c : Bool) → b ≡ true → (a || c) ≡ (a || (b && c))
-    same a b c h = grind arith
+    pub left-more : (u w : ℕ) → v + 1 ≤ u → leads new u w ≡ leads first u w
+    left-more u w l = others u w (λ e. absurd (omega arith)) ∙ left u w (omega arith)
 
 -- one step keeps what rows are, and reaches on by one node more
 either : (a b c : Bool) → (a || (b && c)) ≡ true → (a ≡ true) ⊎ ((b ≡ true) × (c ≡ true))

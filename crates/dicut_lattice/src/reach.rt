@@ -13,6 +13,7 @@ pub struct Reach<'a> {
 }
 
 impl<'a> Model for Reach<'a> {
+    ghost use Rattle.std.specs.Prelude.{length};
     ghost use Rattle.graph_core.specs.Graph.{GraphValue};
     ghost use Rattle.dicut_lattice.specs.Reach.{AreSquare, AreReached};
 
