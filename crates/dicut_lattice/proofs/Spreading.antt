@@ -1,6 +1,7 @@
 -- Sets that spread until no arc leaves them and one arc of a dijoin at most enters them, and what these have in common.
 use Rattle.std.specs.Prelude.{ℕ, zero, suc, ◌≡◌, ◌≢◌, ◌+◌, ◌<◌, ◌≤◌, Bool, true, false, not, ◌&&◌, ◌||◌, ◌⊎◌, List, [], ◌∷◌, length, replicate, slice_set, slice_get, Some, count_by, refl}
 use Rattle.std.proofs.Common.{ap, sym, ◌∙◌, inl, inr, arith, subst}
+use Rattle.std.specs.Bool.{OnTrue, OnFalse}
 use Rattle.std.proofs.lemmas.Bool.{cases_eq, cases_Bool}
 use Rattle.std.proofs.lemmas.List.{length-set, length-replicate, get_or-set_other}
 use Rattle.std.proofs.lemmas.Simd.{length-zip2}
@@ -18,7 +19,7 @@ use Rattle.graph_core.proofs.SideLaws.{has-none, has-below}
 use Rattle.graph_core.proofs.SizeLaws.{count-cons, weight_true, weight_false, weight_most, size-ge_sum, size-none}
 use Rattle.problem_defs.specs.Dijoin.{IsClosed, IsFeasible}
 use Rattle.dicut_lattice.specs.Reach.{IsReach}
-use Rattle.dicut_lattice.specs.Spread.{GoesBack, IsSpread, IsSpreading, IsLeastSpread, SpreadsBetween, IsCommon}
+use Rattle.dicut_lattice.specs.Spread.{GoesBack, IsSpread, IsSpreading, StepsBack, HasPassed, IsLeastSpread, SpreadsBetween, IsCommon}
 use Rattle.dicut_lattice.specs.Tight.{joins, IsTight, IsKernel, IsAllowed, AreSeparated}
 use Rattle.dicut_lattice.proofs.ClosedSides.{has-meet, has-join, not_out, never_out}
 
@@ -77,17 +78,61 @@ size-grows X Y v long kept out in_y =
 pub reach-spreading : (g : GraphValue) (arcs : List Line) (skip y : ℕ) (R : List Bool) → IsReach g y R → IsSpreading g arcs skip y R
 reach-spreading g arcs skip y R r = record { long = r.long; holds = r.holds; closed = r.closed; within = λ W w in_y v h. r.least W w.closed in_y v h }
 
--- one more arc that is gone back along
-pub spreading-on : {g : GraphValue} {arcs : List Line} {skip y j : ℕ} {X Y : List Bool} (l : Line) → IsSpreading g arcs skip y X → length Y ≡ length X → slice_get arcs j ≡ Some l → j ≢ skip
-    → (leaving X g.lines ≡ 0 → leaving Y g.lines ≡ 0) → ((v : ℕ) → has X v ≡ true → has Y v ≡ true)
-    → ((W : List Bool) → leaving W g.lines ≡ 0 → (has W l.head ≡ true → has W l.tail ≡ true) → ((v : ℕ) → has X v ≡ true → has W v ≡ true) → (v : ℕ) → has Y v ≡ true → has W v ≡ true)
-    → IsSpreading g arcs skip y Y
-spreading-on {g} {arcs} {skip} {y} {j} {X} {Y} l s long at ne closed kept within = record {
-  long = long ∙ s.long;
-  holds = kept y s.holds;
-  closed = closed s.closed;
-  within = λ W w in_y v h. within W w.closed (w.back j l (slice_get_within arcs j l at) at ne) (s.within W w in_y) v h;
-}
+-- the tail of a line joins a set with its head
+pub steps-back : (g : GraphValue) (l : Line) (X R : List Bool) → length X ≡ length g.names → IsReach g l.tail R → has X l.head ≡ true → has X l.tail ≡ false → StepsBack g l X true (join X R)
+steps-back g l X R long r in_head out =
+    let alike : length (join X R) ≡ length X = length-zip2 ◌||◌ X R (long ∙ sym r.long) in
+    record {
+      long = alike;
+      closed = join-closed g l.tail X R long r;
+      kept = join-kept g l.tail X R long r;
+      within = λ W none back sub. join-within g l.tail X R long r W none (back (sub l.head in_head)) sub;
+      more = size-grows X (join X R) l.tail alike (join-kept g l.tail X R long r) out (join-gets g l.tail X R long r);
+      same = tt;
+      back = tt;
+    }
+
+-- one place more
+back-more : (arcs : List Line) (skip k : ℕ) (Y : List Bool) → GoesBack k arcs skip Y → ((l : Line) → slice_get arcs k ≡ Some l → k ≢ skip → has Y l.head ≡ true → has Y l.tail ≡ true) → GoesBack (k + 1) arcs skip Y
+back-more arcs skip k Y before here j l below at ne = elim (cases_eq j k) [
+  | inl e ↦ here l (rw e at at) (rw e at ne)
+  | inr other ↦ before j l (omega arith) at ne
+]
+
+module _ {g : GraphValue} {arcs : List Line} {skip k : ℕ} {X Y : List Bool} where
+  passed-more : {grew : Bool} → HasPassed g arcs skip k X grew Y → ((l : Line) → slice_get arcs k ≡ Some l → k ≢ skip → has Y l.head ≡ true → has Y l.tail ≡ true) → HasPassed g arcs skip (k + 1) X grew Y
+  passed-more {grew} p here = record { long = p.long; spreading = p.spreading; kept = p.kept; more = p.more; done = goes grew p.done }
+    where
+      goes : (b : Bool) → OnFalse b (GoesBack k arcs skip Y) → OnFalse b (GoesBack (k + 1) arcs skip Y)
+      goes true d = tt
+      goes false d = back-more arcs skip k Y d here
+
+  pub passed-skip : {grew : Bool} → HasPassed g arcs skip k X grew Y → k ≡ skip → HasPassed g arcs skip (k + 1) X grew Y
+  passed-skip p e = passed-more p (λ l at ne. absurd (ne e))
+
+  pub passed-stay : {grew : Bool} {Z : List Bool} (l : Line) → HasPassed g arcs skip k X grew Y → slice_get arcs k ≡ Some l → StepsBack g l Y false Z → HasPassed g arcs skip (k + 1) X grew Z
+  passed-stay {grew} l p at s =
+      subst (HasPassed g arcs skip (k + 1) X grew) (sym s.same)
+      (passed-more p (λ m at_m ne in_h. let same : m ≡ l = cc in rw same (s.back (rw same at in_h))))
+
+  pub passed-step : {grew : Bool} {Z : List Bool} (l : Line) → HasPassed g arcs skip k X grew Y → slice_get arcs k ≡ Some l → k ≢ skip → StepsBack g l Y true Z → HasPassed g arcs skip (k + 1) X true Z
+  passed-step l p at ne s = record {
+    long = s.long ∙ p.long;
+    spreading = λ y x.
+        let before = p.spreading y x in
+        record {
+          long = s.long ∙ before.long;
+          holds = s.kept y before.holds;
+          closed = s.closed before.closed;
+          within = λ W w in_y v h. s.within W w.closed (w.back k l (slice_get_within arcs k l at) at ne) (before.within W w in_y) v h;
+        };
+    kept = let a = p.kept in let b = s.more in omega arith;
+    more = let a = p.kept in let b = s.more in omega arith;
+    done = tt;
+  }
+
+pub passed-none : (g : GraphValue) (arcs : List Line) (skip : ℕ) (X : List Bool) → HasPassed g arcs skip 0 X false X
+passed-none g arcs skip X = record { long = refl; spreading = λ y s. s; kept = omega arith; more = tt; done = λ j l below. absurd (omega arith) }
 
 pub least-spread : {g : GraphValue} {arcs : List Line} {skip y : ℕ} {R : List Bool} → IsSpreading g arcs skip y R → GoesBack (length arcs) arcs skip R → IsLeastSpread g arcs skip y R
 least-spread s back = record { spread = record { closed = s.closed; back = back }; spreading = s }

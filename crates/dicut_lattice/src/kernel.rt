@@ -1,10 +1,7 @@
-ghost use Rattle.std.specs.Prelude.{◌≡◌, ◌<◌, ℕ, Bool, List, true, length, All, IfOk};
-ghost use Rattle.std.specs.Bool.{OnTrue, OnFalse};
+ghost use Rattle.std.specs.Prelude.{◌≡◌, ◌<◌, length, All, IfOk};
 ghost use Rattle.graph_core.specs.Graph.{Fits};
-ghost use Rattle.graph_core.specs.Lines.{leaving};
-ghost use Rattle.graph_core.specs.Side.{has, size};
 ghost use Rattle.problem_defs.specs.Dijoin.{IsFeasible};
-ghost use Rattle.dicut_lattice.specs.Spread.{GoesBack, IsSpreading, IsLeastSpread, IsCommon};
+ghost use Rattle.dicut_lattice.specs.Spread.{StepsBack, HasPassed, IsLeastSpread, IsCommon};
 ghost use Rattle.dicut_lattice.specs.Tight.{IsKernel};
 
 use crate::picks::picked_lines;
@@ -103,10 +100,7 @@ fn spread(reach: &Reach, arcs: &[Line], skip: usize, y: u32, into: &mut Side)
 fn pass(reach: &Reach, arcs: &[Line], skip: usize, into: &mut Side) -> bool
     requires fit { All (Fits (length reach.now.names)) arcs.now }
     requires long { length into.old ≡ length reach.now.names }
-    ensures long { length into.new ≡ length into.old }
-    ensures spreading { (y : ℕ) → IsSpreading reach.now arcs.now skip y into.old → IsSpreading reach.now arcs.now skip y into.new }
-    ensures more { OnTrue result (size into.old < size into.new) }
-    ensures done { OnFalse result (GoesBack (length arcs.now) arcs.now skip into.new) }
+    ensures { HasPassed reach.now arcs.now skip (length arcs.now) into.old result into.new }
 {
     let mut grew = false;
     for (place, line) in arcs.iter().enumerate() {
@@ -121,13 +115,7 @@ fn pass(reach: &Reach, arcs: &[Line], skip: usize, into: &mut Side) -> bool
 fn go_back(reach: &Reach, line: Line, into: &mut Side) -> bool
     requires fit { Fits (length reach.now.names) line }
     requires long { length into.old ≡ length reach.now.names }
-    ensures long { length into.new ≡ length into.old }
-    ensures closed { leaving into.old reach.now.lines ≡ 0 → leaving into.new reach.now.lines ≡ 0 }
-    ensures kept { (v : ℕ) → has into.old v ≡ true → has into.new v ≡ true }
-    ensures within { (W : List Bool) → leaving W reach.now.lines ≡ 0 → (has W line.head ≡ true → has W line.tail ≡ true) → ((v : ℕ) → has into.old v ≡ true → has W v ≡ true) → (v : ℕ) → has into.new v ≡ true → has W v ≡ true }
-    ensures more { OnTrue result (size into.old < size into.new) }
-    ensures same { OnFalse result (into.new ≡ into.old) }
-    ensures back { OnFalse result (has into.old line.head ≡ true → has into.old line.tail ≡ true) }
+    ensures { StepsBack reach.now line into.old result into.new }
 {
     if !into.has(line.head) || into.has(line.tail) {
         return false;
