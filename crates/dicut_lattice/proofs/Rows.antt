@@ -14,16 +14,16 @@ use Rattle.dicut_lattice.specs.Reach.{leads, leads_by, AreSquare, AreRows, AreOw
 use Rattle.dicut_lattice.proofs.ClosedSides.{has-join, not_out, never_out}
 
 -- one row is exchanged
-pub row-long : {n : ℕ} (rows : List (List Bool)) → AreSquare n rows → (v : ℕ) → v < n → length (slice_index_or rows v []) ≡ n
+row-long : {n : ℕ} (rows : List (List Bool)) → AreSquare n rows → (v : ℕ) → v < n → length (slice_index_or rows v []) ≡ n
 row-long {n} rows s v l = let e = s.count in All-get_or (λ R. length R ≡ n) rows v [] (omega arith) s.long
 
-pub square-set : {n : ℕ} (rows : List (List Bool)) (v : ℕ) (R : List Bool) → AreSquare n rows → length R ≡ n → AreSquare n (slice_set rows v R)
+square-set : {n : ℕ} (rows : List (List Bool)) (v : ℕ) (R : List Bool) → AreSquare n rows → length R ≡ n → AreSquare n (slice_set rows v R)
 square-set {n} rows v R s long = record { count = length-set rows v R ∙ s.count; long = All-set (λ X. length X ≡ n) rows v R long s.long }
 
-pub leads-set : (rows : List (List Bool)) (v w : ℕ) (R : List Bool) → v < length rows → leads (slice_set rows v R) v w ≡ has R w
+leads-set : (rows : List (List Bool)) (v w : ℕ) (R : List Bool) → v < length rows → leads (slice_set rows v R) v w ≡ has R w
 leads-set rows v w R l = ap (λ X. has X w) (get_or-set_same rows v R [] l)
 
-pub leads-other : (rows : List (List Bool)) (v u w : ℕ) (R : List Bool) → u ≢ v → leads (slice_set rows v R) u w ≡ leads rows u w
+leads-other : (rows : List (List Bool)) (v u w : ℕ) (R : List Bool) → u ≢ v → leads (slice_set rows v R) u w ≡ leads rows u w
 leads-other rows v u w R ne = ap (λ X. has X w) (get_or-set_other rows v u R [] ne)
 
 -- the row of k is joined to that of v

@@ -28,16 +28,16 @@ module _ (g : GraphValue) (y : ℕ) (X R : List Bool) (long : length X ≡ lengt
   alike : length X ≡ length R
   alike = long ∙ sym r.long
 
-  pub join-closed : leaving X g.lines ≡ 0 → leaving (join X R) g.lines ≡ 0
+  join-closed : leaving X g.lines ≡ 0 → leaving (join X R) g.lines ≡ 0
   join-closed none = let law = leaving_meets g.lines X R long r.long in let e = r.closed in omega arith
 
-  pub join-kept : (v : ℕ) → has X v ≡ true → has (join X R) v ≡ true
+  join-kept : (v : ℕ) → has X v ≡ true → has (join X R) v ≡ true
   join-kept v h = has-join X R v alike ∙ or_left (has X v) (has R v) h
 
-  pub join-gets : has (join X R) y ≡ true
+  join-gets : has (join X R) y ≡ true
   join-gets = has-join X R y alike ∙ or_right (has X y) (has R y) r.holds
 
-  pub join-within : (W : List Bool) → leaving W g.lines ≡ 0 → has W y ≡ true → ((v : ℕ) → has X v ≡ true → has W v ≡ true) → (v : ℕ) → has (join X R) v ≡ true → has W v ≡ true
+  join-within : (W : List Bool) → leaving W g.lines ≡ 0 → has W y ≡ true → ((v : ℕ) → has X v ≡ true → has W v ≡ true) → (v : ℕ) → has (join X R) v ≡ true → has W v ≡ true
   join-within W none in_y sub v h = elim (or_cases (has X v) (has R v) (sym (has-join X R v alike) ∙ h)) [
     | inl in_x ↦ sub v in_x
     | inr in_r ↦ r.least W none in_y v in_r
@@ -48,7 +48,7 @@ weight_kept : (a b : Bool) → (a ≡ true → b ≡ true) → weight a + weight
 weight_kept true b h = rw (h refl) (omega arith)
 weight_kept false b h = omega arith
 
-pub size-grows : (X Y : List Bool) (v : ℕ) → length Y ≡ length X → ((u : ℕ) → has X u ≡ true → has Y u ≡ true) → has X v ≡ false → has Y v ≡ true → size X < size Y
+size-grows : (X Y : List Bool) (v : ℕ) → length Y ≡ length X → ((u : ℕ) → has X u ≡ true → has Y u ≡ true) → has X v ≡ false → has Y v ≡ true → size X < size Y
 size-grows X Y v long kept out in_y =
     let l : v < length X = let b = has-below Y v in_y in omega arith in
     let P = slice_set X v true in
