@@ -24,13 +24,13 @@ fn raise_arc(
 ) -> Result<bool, NoMemory>
     requires kept { AllKept graph.now work.old }
     requires number { number < length graph.now.lines }
-    requires held { held.old.tight ≡ record { graph = graph.now; join = work.old.join } }
+    requires held { held.old.kernels ≡ record { graph = graph.now; join = work.old.join } }
     requires more { at work.old.costs number ≤ cost }
     requires room { sum work.old.costs + cost < 2 ^ 64 }
     ensures kept { OnOk result (AllKept graph.now work.new) }
     ensures raised { IfOk result (λ other. IsRaised number cost work.old.costs work.new.costs other) }
     ensures join { IfOk result (λ other. OnFalse other (work.new.join ≡ work.old.join)) }
-    ensures held { IfOk result (λ other. OnFalse other (held.new.tight ≡ held.old.tight)) }
+    ensures held { IfOk result (λ other. OnFalse other (held.new.kernels ≡ held.old.kernels)) }
 {
     if !*held.taken.item(number) {
         raise_free(work, number, cost);
@@ -55,7 +55,7 @@ fn raise_held(
     from: usize,
 ) -> Result<usize, NoMemory>
     requires kept { AllKept graph.now work.old }
-    requires held { held.old.tight ≡ record { graph = graph.now; join = work.old.join } }
+    requires held { held.old.kernels ≡ record { graph = graph.now; join = work.old.join } }
     requires long { length costs.now ≡ length graph.now.lines }
     requires room { sum costs.now < 2 ^ 63 }
     requires spent { IsSpent graph.now.lines costs.now from work.old.costs }
