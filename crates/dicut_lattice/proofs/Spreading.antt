@@ -1,0 +1,223 @@
+-- Sets that spread until no arc leaves them and one arc of a dijoin at most enters them, and what these have in common.
+use Rattle.std.specs.Prelude.{ℕ, zero, suc, ◌≡◌, ◌≢◌, ◌+◌, ◌<◌, ◌≤◌, Bool, true, false, not, ◌&&◌, ◌||◌, ◌⊎◌, List, [], ◌∷◌, length, replicate, slice_set, slice_get, Some, count_by, refl}
+use Rattle.std.proofs.Common.{ap, sym, ◌∙◌, inl, inr, arith, subst}
+use Rattle.std.specs.Bool.{OnTrue, OnFalse}
+use Rattle.std.proofs.lemmas.Bool.{cases_eq, cases_Bool}
+use Rattle.std.proofs.lemmas.List.{length-set, length-replicate, get_or-set_other}
+use Rattle.std.proofs.lemmas.Simd.{length-zip2}
+use Rattle.std.proofs.lemmas.Option.{slice_get_within}
+use Rattle.graph_core.specs.Graph.{GraphValue}
+use Rattle.graph_core.specs.Side.{has, size, meet, join}
+use Rattle.graph_core.specs.Lines.{enters, leaving, entering}
+use Rattle.graph_core.specs.Picked.{picked}
+use Rattle.graph_core.specs.declared.graph.Line.{Line}
+use Rattle.graph_core.proofs.Counting.{weight, none-pass, All-slice_get}
+use Rattle.graph_core.proofs.CutLaws.{leaving_meets}
+use Rattle.graph_core.proofs.ProperLaws.{is_proper}
+use Rattle.graph_core.proofs.PutLaws.{size-put}
+use Rattle.graph_core.proofs.SideLaws.{has-none, has-below}
+use Rattle.graph_core.proofs.SizeLaws.{count-cons, weight_true, weight_false, weight_most, size-ge_sum, size-none}
+use Rattle.problem_defs.specs.Dijoin.{IsClosed, IsFeasible}
+use Rattle.dicut_lattice.specs.Reach.{IsReach}
+use Rattle.dicut_lattice.specs.Spread.{GoesBack, IsSpread, IsSpreading, StepsBack, HasPassed, IsLeastSpread, SpreadsBetween, IsCommon}
+use Rattle.dicut_lattice.specs.Tight.{joins, IsTight, IsKernel, IsAllowed, AreSeparated}
+use Rattle.dicut_lattice.proofs.ClosedSides.{has-meet, has-join, not_out, never_out}
+
+-- the union with what a node reaches
+either : (a b : Bool) → (a || b) ≡ true → (a ≡ true) ⊎ (b ≡ true)
+either true b h = inl refl
+either false b h = inr h
+
+left_in : (a b : Bool) → a ≡ true → (a || b) ≡ true
+left_in a b h = grind arith
+
+right_in : (a b : Bool) → b ≡ true → (a || b) ≡ true
+right_in a b h = grind arith
+
+module _ (g : GraphValue) (y : ℕ) (X R : List Bool) (long : length X ≡ length g.names) (r : IsReach g y R) where
+  alike : length X ≡ length R
+  alike = long ∙ sym r.long
+
+  pub join-closed : leaving X g.lines ≡ 0 → leaving (join X R) g.lines ≡ 0
+  join-closed none = let law = leaving_meets g.lines X R long r.long in let e = r.closed in omega arith
+
+  pub join-kept : (v : ℕ) → has X v ≡ true → has (join X R) v ≡ true
+  join-kept v h = has-join X R v alike ∙ left_in (has X v) (has R v) h
+
+  pub join-gets : has (join X R) y ≡ true
+  join-gets = has-join X R y alike ∙ right_in (has X y) (has R y) r.holds
+
+  pub join-within : (W : List Bool) → leaving W g.lines ≡ 0 → has W y ≡ true → ((v : ℕ) → has X v ≡ true → has W v ≡ true) → (v : ℕ) → has (join X R) v ≡ true → has W v ≡ true
+  join-within W none in_y sub v h = elim (either (has X v) (has R v) (sym (has-join X R v alike) ∙ h)) [
+    | inl in_x ↦ sub v in_x
+    | inr in_r ↦ r.least W none in_y v in_r
+  ]
+
+-- a set that keeps its nodes and gets one more is larger
+weight_kept : (a b : Bool) → (a ≡ true → b ≡ true) → weight a + weight false ≤ weight b
+weight_kept true b h = rw (h refl) (omega arith)
+weight_kept false b h = omega arith
+
+pub size-grows : (X Y : List Bool) (v : ℕ) → length Y ≡ length X → ((u : ℕ) → has X u ≡ true → has Y u ≡ true) → has X v ≡ false → has Y v ≡ true → size X < size Y
+size-grows X Y v long kept out in_y =
+    let l : v < length X = let b = has-below Y v in_y in omega arith in
+    let P = slice_set X v true in
+    let none = replicate (length Y) false in
+    let more : size P + size none ≤ size Y =
+    size-ge_sum Y P none (length-set X v true ∙ sym long) (length-replicate (length Y) false)
+    (λ u. rw (has-none (length Y) u) (weight_kept (has P u) (has Y u) (λ h. put_only u h))) in
+    omega (arith, size-put X v l out)
+  where
+    put_only : (u : ℕ) → has (slice_set X v true) u ≡ true → has Y u ≡ true
+    put_only u h = elim (cases_eq u v) [
+      | inl e ↦ rw e in_y
+      | inr ne ↦ kept u (sym (get_or-set_other X v u true false ne) ∙ h)
+    ]
+
+-- what a node reaches is spreading
+pub reach-spreading : (g : GraphValue) (arcs : List Line) (skip y : ℕ) (R : List Bool) → IsReach g y R → IsSpreading g arcs skip y R
+reach-spreading g arcs skip y R r = record { long = r.long; holds = r.holds; closed = r.closed; within = λ W w in_y v h. r.least W w.closed in_y v h }
+
+-- the tail of a line joins a set with its head
+pub steps-back : (g : GraphValue) (l : Line) (X R : List Bool) → length X ≡ length g.names → IsReach g l.tail R → has X l.head ≡ true → has X l.tail ≡ false → StepsBack g l X true (join X R)
+steps-back g l X R long r in_head out =
+    let alike : length (join X R) ≡ length X = length-zip2 ◌||◌ X R (long ∙ sym r.long) in
+    record {
+      long = alike;
+      closed = join-closed g l.tail X R long r;
+      kept = join-kept g l.tail X R long r;
+      within = λ W none back sub. join-within g l.tail X R long r W none (back (sub l.head in_head)) sub;
+      more = size-grows X (join X R) l.tail alike (join-kept g l.tail X R long r) out (join-gets g l.tail X R long r);
+      same = tt;
+      back = tt;
+    }
+
+-- one place more
+back-more : (arcs : List Line) (skip k : ℕ) (Y : List Bool) → GoesBack k arcs skip Y → ((l : Line) → slice_get arcs k ≡ Some l → k ≢ skip → has Y l.head ≡ true → has Y l.tail ≡ true) → GoesBack (k + 1) arcs skip Y
+back-more arcs skip k Y before here j l below at ne = elim (cases_eq j k) [
+  | inl e ↦ here l (rw e at at) (rw e at ne)
+  | inr other ↦ before j l (omega arith) at ne
+]
+
+module _ {g : GraphValue} {arcs : List Line} {skip k : ℕ} {X Y : List Bool} where
+  passed-more : {grew : Bool} → HasPassed g arcs skip k X grew Y → ((l : Line) → slice_get arcs k ≡ Some l → k ≢ skip → has Y l.head ≡ true → has Y l.tail ≡ true) → HasPassed g arcs skip (k + 1) X grew Y
+  passed-more {grew} p here = record { long = p.long; spreading = p.spreading; kept = p.kept; more = p.more; done = goes grew p.done }
+    where
+      goes : (b : Bool) → OnFalse b (GoesBack k arcs skip Y) → OnFalse b (GoesBack (k + 1) arcs skip Y)
+      goes true d = tt
+      goes false d = back-more arcs skip k Y d here
+
+  pub passed-skip : {grew : Bool} → HasPassed g arcs skip k X grew Y → k ≡ skip → HasPassed g arcs skip (k + 1) X grew Y
+  passed-skip p e = passed-more p (λ l at ne. absurd (ne e))
+
+  pub passed-stay : {grew : Bool} {Z : List Bool} (l : Line) → HasPassed g arcs skip k X grew Y → slice_get arcs k ≡ Some l → StepsBack g l Y false Z → HasPassed g arcs skip (k + 1) X grew Z
+  passed-stay {grew} l p at s =
+      subst (HasPassed g arcs skip (k + 1) X grew) (sym s.same)
+      (passed-more p (λ m at_m ne in_h. let same : m ≡ l = cc in rw same (s.back (rw same at in_h))))
+
+  pub passed-step : {grew : Bool} {Z : List Bool} (l : Line) → HasPassed g arcs skip k X grew Y → slice_get arcs k ≡ Some l → k ≢ skip → StepsBack g l Y true Z → HasPassed g arcs skip (k + 1) X true Z
+  passed-step l p at ne s = record {
+    long = s.long ∙ p.long;
+    spreading = λ y x.
+        let before = p.spreading y x in
+        record {
+          long = s.long ∙ before.long;
+          holds = s.kept y before.holds;
+          closed = s.closed before.closed;
+          within = λ W w in_y v h. s.within W w.closed (w.back k l (slice_get_within arcs k l at) at ne) (before.within W w in_y) v h;
+        };
+    kept = let a = p.kept in let b = s.more in omega arith;
+    more = let a = p.kept in let b = s.more in omega arith;
+    done = tt;
+  }
+
+pub passed-none : (g : GraphValue) (arcs : List Line) (skip : ℕ) (X : List Bool) → HasPassed g arcs skip 0 X false X
+passed-none g arcs skip X = record { long = refl; spreading = λ y s. s; kept = omega arith; more = tt; done = λ j l below. absurd (omega arith) }
+
+pub least-spread : {g : GraphValue} {arcs : List Line} {skip y : ℕ} {R : List Bool} → IsSpreading g arcs skip y R → GoesBack (length arcs) arcs skip R → IsLeastSpread g arcs skip y R
+least-spread s back = record { spread = record { closed = s.closed; back = back }; spreading = s }
+
+-- one test that passes, at one place
+module _ {X : Type 0} (p : X → Bool) where
+  count-fail : (xs : List X) → ((j : ℕ) (x : X) → slice_get xs j ≡ Some x → p x ≡ false) → count_by p xs ≡ 0
+  count-fail [] h = refl
+  count-fail (x ∷ xs) h = omega (arith, count-cons p x xs, weight_false (p x) (h 0 x refl), count-fail xs (λ j z e. h (suc j) z e))
+
+  -- at most one passes where each but that at one place fails
+  count-one : (xs : List X) (skip : ℕ) → ((j : ℕ) (x : X) → slice_get xs j ≡ Some x → j ≢ skip → p x ≡ false) → count_by p xs ≤ 1
+  count-one [] skip h = omega arith
+  count-one (x ∷ xs) zero h = omega (arith, count-cons p x xs, weight_most (p x), count-fail xs (λ j z e. h (suc j) z e (λ n. absurd (omega arith))))
+  count-one (x ∷ xs) (suc skip) h =
+      omega (arith, count-cons p x xs, weight_false (p x) (h 0 x refl (λ n. absurd (omega arith))), count-one xs skip (λ j z e ne. h (suc j) z e (λ n. ne (omega arith))))
+
+  first_only : (x : X) (xs : List X) → count_by p xs ≡ 0 → (j : ℕ) (z : X) → slice_get (x ∷ xs) j ≡ Some z → j ≢ 0 → p z ≡ false
+  first_only x xs none zero z e ne = absurd (ne refl)
+  first_only x xs none (suc j) z e ne = All-slice_get (λ y. p y ≡ false) xs (none-pass p xs none) j z e
+
+  later_only : (x : X) (xs : List X) → p x ≡ false → (skip : ℕ) → ((j : ℕ) (z : X) → slice_get xs j ≡ Some z → j ≢ skip → p z ≡ false) → (j : ℕ) (z : X) → slice_get (x ∷ xs) j ≡ Some z → j ≢ suc skip → p z ≡ false
+  later_only x xs fail skip h zero z e ne = let same : z ≡ x = cc in ap p same ∙ fail
+  later_only x xs fail skip h (suc j) z e ne = h j z e (λ q. ne (ap suc q))
+
+  -- where one passes, each at another place fails
+  one-place : (xs : List X) → count_by p xs ≡ 1 → (skip : ℕ) × (skip < length xs) × ((j : ℕ) (x : X) → slice_get xs j ≡ Some x → j ≢ skip → p x ≡ false)
+  one-place [] h = absurd (omega arith)
+  one-place (x ∷ xs) h = elim (cases_Bool (p x)) [
+    | inl pass ↦ (0, omega arith, first_only x xs (omega (arith, count-cons p x xs, weight_true (p x) pass)))
+    | inr fail ↦ let (skip, l, others) = one-place xs (omega (arith, count-cons p x xs, weight_false (p x) fail)) in (suc skip, omega arith, later_only x xs fail skip others)
+  ]
+
+-- with a dijoin, sets that are spread and proper are tight, and tight sides are spread
+module _ {g : GraphValue} {B : List ℕ} (f : IsFeasible g B) where
+  abbrev arcs : List Line
+  arcs = picked g.lines B
+
+  spread-separates : (y x skip : ℕ) (R : List Bool) → x < length g.names → SpreadsBetween g arcs y x skip R → AreSeparated g B y x
+  spread-separates y x skip R x_in s =
+      let closed : IsClosed g R = record { proper = is_proper R y x s.long s.holds x_in s.misses; closed = s.spread.closed } in
+      let most : joins g B R ≤ 1 = count-one (enters R) arcs skip (λ j l e ne. never_out (has R l.head) (has R l.tail) (s.spread.back j l (slice_get_within arcs j l e) e ne)) in
+      let least : 1 ≤ joins g B R = f.covers R closed in
+      (R, record { tight = record { closed = closed; once = omega arith }; holds = s.holds; misses = s.misses })
+
+  tight-spread : (T : List Bool) → IsTight g B T → (skip : ℕ) × (skip < length arcs) × IsSpread g arcs skip T
+  tight-spread T tight =
+      let (skip, l, others) = one-place (enters T) arcs tight.once in
+      (skip, l, record { closed = tight.closed.closed; back = λ j l _ e ne in_h. not_out (has T l.head) (has T l.tail) (others j l e ne) in_h })
+
+  pub common-kernel : (y : ℕ) (K : List Bool) → IsCommon g arcs (length arcs) y K → IsKernel g B y K
+  common-kernel y K c = record {
+    long = c.long;
+    inside = λ x in_k T tight in_y. let (skip, l, s) = tight-spread T tight in c.inside x in_k skip l T s in_y;
+    outside = λ x x_in out. let (skip, R, s) = c.outside x x_in out in spread-separates y x skip R x_in s;
+  }
+
+-- what is common for one place more
+both_in : (a b : Bool) → (a && b) ≡ true → (a ≡ true) × (b ≡ true)
+both_in true b h = (refl, h)
+both_in false b h = absurd cc
+
+one_out : (a b : Bool) → (a && b) ≡ false → a ≡ true → b ≡ false
+one_out a b h k = grind arith
+
+pub common-more : {g : GraphValue} {arcs : List Line} {k y : ℕ} (K R : List Bool) → IsCommon g arcs k y K → IsLeastSpread g arcs k y R → IsCommon g arcs (k + 1) y (meet K R)
+common-more {g} {arcs} {k} {y} K R c s =
+    let alike : length K ≡ length R = c.long ∙ sym s.spreading.long in
+    record {
+      long = length-zip2 ◌&&◌ K R alike ∙ c.long;
+      inside = λ x h skip l W w in_y.
+          let two = both_in (has K x) (has R x) (sym (has-meet K R x alike) ∙ h) in
+          elim (cases_eq skip k) [
+            | inl e ↦ s.spreading.within W (rw e at w) in_y x two.1
+            | inr ne ↦ c.inside x two.0 skip (omega arith) W w in_y
+          ];
+      outside = λ x x_in h. elim (cases_Bool (has K x)) [
+        | inl in_k ↦ (k, R, record { long = s.spreading.long; spread = s.spread; holds = s.spreading.holds; misses = one_out (has K x) (has R x) (sym (has-meet K R x alike) ∙ h) in_k })
+        | inr out ↦ c.outside x x_in out
+      ];
+    }
+
+pub common-none : (g : GraphValue) (arcs : List Line) (y : ℕ) (K : List Bool) → length K ≡ length g.names → ((v : ℕ) → v < length g.names → has K v ≡ true) → IsCommon g arcs 0 y K
+common-none g arcs y K long whole = record {
+  long = long;
+  inside = λ x h skip l. absurd (omega arith);
+  outside = λ x x_in out. absurd (let is = whole x x_in in cc);
+}
