@@ -1,6 +1,7 @@
 -- Kernels are put into the rows of their nodes.
-use Rattle.std.specs.Prelude.{ℕ, zero, suc, ◌≡◌, ◌<◌, Bool, List, Option, Some, None, length, replicate, slice_set, refl}
+use Rattle.std.specs.Prelude.{ℕ, zero, suc, ◌≡◌, ◌<◌, Bool, true, false, not, List, Option, Some, None, length, replicate, slice_set, refl}
 use Rattle.std.proofs.Common.{◌∙◌, sym, subst, inl, inr}
+use Rattle.std.specs.Option.{is_some}
 use Rattle.std.proofs.lemmas.Bool.{cases_eq, both_ways}
 use Rattle.std.proofs.lemmas.List.{get_or-set_same, get_or-set_other}
 use Rattle.graph_core.specs.Graph.{GraphValue}
@@ -14,6 +15,12 @@ kernel-allowed g join y K k = record {
   inside = k.inside;
   outside = λ x below out allowed. let (U, s) = k.outside x below out in both_ways (has U x) s.misses (allowed U s.tight s.holds);
 }
+
+-- there is a kernel where the test for none says no
+pub some-row : (o : Option (List Bool)) (b : Bool) → is_some o ≡ not b → b ≡ false → (K : List Bool) × (o ≡ Some K)
+some-row (Some K) b e f = (K, refl)
+some-row None true e f = absurd cc
+some-row None false e f = absurd cc
 
 no-row : (n v : ℕ) → row (replicate n None) v ≡ None
 no-row zero v = refl

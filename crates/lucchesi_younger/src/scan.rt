@@ -120,7 +120,8 @@ pub(crate) fn try_jump(
     if *potential.item(from as usize) != *potential.item(to as usize) {
         return Ok(());
     }
-    if !held.leads(alloc, from, to)? {
+    let allowed = held.leads(alloc, from, to)?;
+    if !allowed {
         return Ok(());
     }
     let step = Step {

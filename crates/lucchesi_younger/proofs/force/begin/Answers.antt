@@ -1,4 +1,4 @@
-use Rattle.std.proofs.Common.{length, replicate, false, true, set, refl, sym, ap, subst, ◌∙◌, arith}
+use Rattle.std.proofs.Common.{length, replicate, false, true, set, refl, sym, subst, ◌∙◌}
 use Rattle.graph_core.specs.Graph.{Fits}
 use Rattle.graph_core.proofs.Counting.{All-slice_get}
 use Rattle.lucchesi_younger.specs.Search.{IsSearch}

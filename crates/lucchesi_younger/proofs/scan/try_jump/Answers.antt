@@ -34,13 +34,13 @@ returns-then-item-clause-past c out same =
     let two = get_or_from_slice_get p c.args.to c.item-2.result.now 0 c.item-2.ensures in
     absurd (c.if-item.true (sym one ∙ ap (at p) from ∙ same ∙ two))
 
-pub returns-then-not-leads-clause-past : goal.returns-then-not-leads-clause-past
-returns-then-not-leads-clause-past c out same =
+pub returns-then-not-allowed-clause-past : goal.returns-then-not-allowed-clause-past
+returns-then-not-allowed-clause-past c out same =
     let visits = c.args.search.now.visits.items in
     let from : c.index.result.now.step.to ≡ node visits c.args.place = ap (λ (v : Visit). v.step.to) (visit_read visits c.args.place c.index.result.now c.requires.place c.index.ensures) in
     subst (λ u. AreSeparated c.args.task.now.graph.now c.args.task.now.work.now.join u c.args.to) from
     (subst (λ (t : TightValue). AreSeparated t.graph t.join c.index.result.now.step.to c.args.to) c.requires.held
-    (OnFalse_at {P = AreSeparated c.args.held.now.kernels.graph c.args.held.now.kernels.join c.index.result.now.step.to c.args.to} c.if-not-leads.true c.in_ok-leads.ensures.no))
+    (OnFalse_at {P = AreSeparated c.args.held.now.kernels.graph c.args.held.now.kernels.join c.index.result.now.step.to c.args.to} c.if-not-allowed.true c.in_ok-allowed.ensures.no))
 
 pub returns-clause-search : goal.returns-clause-search
 returns-clause-search c =
@@ -52,7 +52,7 @@ returns-clause-search c =
     let fresh : has c.args.search.now.reached c.args.to ≡ false = sym c.has.ensures ∙ c.if-has.false in
     let one = get_or_from_slice_get w.potential u c.item.result.now 0 c.item.ensures in
     let two = get_or_from_slice_get w.potential c.args.to c.item-2.result.now 0 c.item-2.ensures in
-    let allowed = subst (λ (t : TightValue). IsAllowed t.graph t.join c.args.to u) c.requires.held (OnTrue_at {P = IsAllowed c.args.held.now.kernels.graph c.args.held.now.kernels.join c.args.to u} c.if-not-leads.false c.in_ok-leads.ensures.yes) in
+    let allowed = subst (λ (t : TightValue). IsAllowed t.graph t.join c.args.to u) c.requires.held (OnTrue_at {P = IsAllowed c.args.held.now.kernels.graph c.args.held.now.kernels.join c.args.to u} c.if-not-allowed.false c.in_ok-allowed.ensures.yes) in
     let leads = jump_leads g w c.args.task.now.late c.args.search.now.reached visits c.args.place c.requires.search c.requires.place u c.args.to from c.requires.to fresh (one ∙ c.if-item.false ∙ sym two) allowed in
     search_pushed g w c.args.task.now.late c.args.search.now.reached visits c.args.place c.requires.search _ c.requires.place leads from fresh
     c.reach.new.self.reached c.reach.new.self.visits.items c.in_ok-reach.ensures.reached c.in_ok-reach.ensures.visits

@@ -1,6 +1,4 @@
-use Rattle.std.proofs.Common.{◌≡◌, length, replicate, sym, subst, ap, ◌∙◌}
-use Rattle.std.specs.Prelude.{None}
-use Rattle.std.proofs.lemmas.List.{length-replicate}
+use Rattle.std.proofs.Common.{length, sym, subst}
 use Rattle.dicut_lattice.specs.Tight.{TightValue}
 use Rattle.lucchesi_younger.specs.Marks.{AreMarks}
 use Rattle.lucchesi_younger.specs.Rows.{AreRows}
