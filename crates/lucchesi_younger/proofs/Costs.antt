@@ -1,6 +1,6 @@
 -- The start, and a cost that is raised by one.
 use Rattle.std.specs.Prelude.{false, ℕ, zero, suc, ◌≡◌, ◌≢◌, ◌+◌, ◌<◌, ◌≤◌, List, [], ◌∷◌, length, replicate, slice_set, sum, refl}
-use Rattle.std.proofs.Common.{◌∙◌, subst, arith, inl, inr}
+use Rattle.std.proofs.Common.{◌∙◌, sym, subst, arith, inl, inr}
 use Rattle.std.proofs.lemmas.Bool.{cases_eq}
 use Rattle.std.proofs.lemmas.List.{get_or-set_same, get_or-set_other, length-set, length-replicate}
 use Rattle.std.proofs.lemmas.List.Sums.{sum_by-set, sum_by-cons}
@@ -105,3 +105,9 @@ module _ (g : GraphValue) (w : Work) (k : AllKept g w) (i : ℕ) (below : i < le
         equal = λ j l arc in' _. almost.equal j l arc in' (λ e. out (subst (λ x. IsIn w.join x) e in'));
         apart = almost.apart;
       }
+
+  -- the same, by what was written
+  pub dearer-free : (IsIn w.join i → ⊥) → (new : Work) → new.join ≡ w.join → new.costs ≡ more → new.potential ≡ w.potential → AllKept g new
+  dearer-free out new ej ec ep =
+      let same : new ≡ record { join = w.join; costs = more; potential = w.potential } = (λ t. record { join = ej t; costs = ec t; potential = ep t }) in
+      subst (λ x. AllKept g x) (sym same) (dearer-all out)

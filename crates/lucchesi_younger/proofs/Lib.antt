@@ -11,6 +11,8 @@ pub mod Exchanged
 pub mod Costs
 pub mod Built
 pub mod SearchLaws
+pub mod RowLaws
+pub mod SideSearch
 pub mod MarkLaws
 pub mod Changed
 pub mod Spent

@@ -1,20 +1,20 @@
 -- A search begins, grows and comes to its end.
-use Rattle.std.specs.Prelude.{ℕ, ◌≡◌, ◌≢◌, ◌+◌, ◌<◌, Bool, true, false, ◌&&◌, List, [], ◌∷◌, ◌++◌, length, replicate, slice_set, slice_index_or, refl}
+use Rattle.std.specs.Prelude.{ℕ, ◌≡◌, ◌≢◌, ◌+◌, ◌<◌, Bool, true, false, List, [], ◌∷◌, ◌++◌, length, replicate, slice_set, slice_index_or, refl}
 use Rattle.std.proofs.Common.{sym, ap, ◌∙◌, subst, arith, inl, inr, ◌⊎◌, ⊎_elim}
-use Rattle.std.proofs.lemmas.Bool.{cases_Bool, cases_eq, cases_lt, both_ways, false_from_ne_true}
+use Rattle.std.proofs.lemmas.Bool.{cases_eq, cases_lt, both_ways, false_from_ne_true}
 use Rattle.std.proofs.lemmas.List.{get_or_append_left, get_or_push, length_push, length-set, length-replicate, get_or-set_other, get_or_read}
 use Rattle.std.proofs.lemmas.Option.{slice_get_within}
 use Rattle.graph_core.specs.Graph.{GraphValue, Fits}
-use Rattle.graph_core.specs.Side.{has, meet}
+use Rattle.graph_core.specs.Side.{has}
 use Rattle.graph_core.specs.declared.graph.Line.{Line}
 use Rattle.graph_core.proofs.PutLaws.{size-put, put_here, put_kept}
-use Rattle.graph_core.proofs.SideLaws.{has-none, has-below, has-zip2}
+use Rattle.graph_core.proofs.SideLaws.{has-none, has-below}
 use Rattle.graph_core.proofs.SizeLaws.{size-none}
-use Rattle.dicut_lattice.specs.Tight.{IsAllowed, SeparatesLeast}
+use Rattle.dicut_lattice.specs.Tight.{IsAllowed}
 use Rattle.lucchesi_younger.specs.Kept.{at, IsArc, IsIn}
 use Rattle.lucchesi_younger.specs.Forcing.{Forces, Jumps, IsUnforced}
 use Rattle.lucchesi_younger.specs.Ways.{Leads, IsWay}
-use Rattle.lucchesi_younger.specs.Search.{IsSearch, IsEntered, Grows, IsArcUnforced, IsArcStep, PastArcs, PastJump, PastJumps, IsNear, IsBack, node, visit}
+use Rattle.lucchesi_younger.specs.Search.{IsSearch, IsEntered, Grows, IsArcUnforced, IsArcStep, PastArcs, PastJump, PastJumps, IsBack, node, visit}
 use Rattle.lucchesi_younger.proofs.Joins.{one-arc}
 use Rattle.lucchesi_younger.proofs.WayLaws.{way_push}
 use Rattle.std.proofs.lemmas.List.Elements.{All-nil, All-push, All-weaker}
@@ -42,16 +42,6 @@ grows_trans r r' r'' v v' v'' a b =
     let first = a.longer in
     let next = b.longer in
     record { longer = omega arith; same = λ i l. b.same i (omega arith) ∙ a.same i l; stays = λ x h. a.stays x (b.stays x h) }
-
--- a tight side with u parts it from what it misses
-pub near_meet : (g : GraphValue) (join : List ℕ) (u to : ℕ) (near found : List Bool) → length near ≡ length found → IsNear g join u near → SeparatesLeast g join u to found → IsNear g join u (meet near found)
-near_meet g join u to near found e h s v v_in out =
-    elim (cases_Bool (has near v)) [
-      | inr far ↦ h v v_in far
-      | inl close ↦
-          let misses : has found v ≡ false = sym (has-zip2 ◌&&◌ refl near found v e ∙ (λ i. close i && has found v)) ∙ out in
-          (found, record { tight = s.separates.tight; holds = s.separates.holds; misses = misses })
-    ]
 
 module _ (g : GraphValue) (w : Work) (late : ℕ) where
   pub search_start : (st : Step) → st.by ≡ Left late → st.to < length g.names → IsSearch g w late (slice_set (replicate (length g.names) false) st.to true) (record { step = st; back = 0 } ∷ []) 0

@@ -73,10 +73,6 @@ PastJump g w u v = at w.potential u ≡ at w.potential v → AreSeparated g w.jo
 abbrev pub PastJumps : GraphValue → Work → ℕ → List Bool → ℕ → Type 0
 PastJumps g w u reached i = (v : ℕ) → v < i → has reached v ≡ false → PastJump g w u v
 
--- a tight side separates u from each node that isn't near
-abbrev pub IsNear : GraphValue → List ℕ → ℕ → List Bool → Type 0
-IsNear g join u near = (v : ℕ) → v < length g.names → has near v ≡ false → AreSeparated g join u v
-
 -- no node of the side forces one outside
 abbrev pub IsShut : GraphValue → Work → ℕ → List Bool → Type 0
 IsShut g w late side = (u v : ℕ) → has side u ≡ true → v < length g.names → has side v ≡ false → IsUnforced g w late u v

@@ -55,12 +55,12 @@ fn mend(
     requires kept { IsKept graph.now work.old late }
     requires arc { IsArc graph.now.lines late line }
     requires late { IsLate graph.now work.old late line.tail line.head }
-    requires held { held.old.tight ≡ record { graph = graph.now; join = work.old.join } }
+    requires held { held.old.kernels ≡ record { graph = graph.now; join = work.old.join } }
     requires room { (v : ℕ) → at work.old.potential v + 1 < 2 ^ 64 }
     ensures kept { OnOk result (AllKept graph.now work.new) }
     ensures costs { OnOk result (work.new.costs ≡ work.old.costs) }
     ensures join { IfOk result (λ left. OnFalse left (work.new.join ≡ work.old.join)) }
-    ensures held { IfOk result (λ left. OnFalse left (held.new.tight ≡ held.old.tight)) }
+    ensures held { IfOk result (λ left. OnFalse left (held.new.kernels ≡ held.old.kernels)) }
 {
     graph.known();
     let task = Task {
@@ -94,12 +94,12 @@ pub(crate) fn raise_by_one(
     requires kept { AllKept graph.now work.old }
     requires number { number < length graph.now.lines }
     requires taken { IsIn work.old.join number }
-    requires held { held.old.tight ≡ record { graph = graph.now; join = work.old.join } }
+    requires held { held.old.kernels ≡ record { graph = graph.now; join = work.old.join } }
     requires room { sum work.old.costs + 1 < 2 ^ 64 }
     ensures kept { OnOk result (AllKept graph.now work.new) }
     ensures costs { OnOk result (work.new.costs ≡ slice_set work.old.costs number (at work.old.costs number + 1)) }
     ensures join { IfOk result (λ other. OnFalse other (work.new.join ≡ work.old.join)) }
-    ensures held { IfOk result (λ other. OnFalse other (held.new.tight ≡ held.old.tight)) }
+    ensures held { IfOk result (λ other. OnFalse other (held.new.kernels ≡ held.old.kernels)) }
 {
     let cost = *work.costs.item(number);
     *work.costs.item_mut(number) = cost + 1;

@@ -14,8 +14,8 @@ use std::alloc::Global;
 /// Begins a search at the head of the late arc. Most often a jump leads to its tail at once.
 fn begin(alloc: Global, task: &Task, held: &mut Held) -> Result<Search, NoMemory>
     requires kept { IsKept task.now.graph.now task.now.work.now task.now.late }
-    requires held { held.old.tight ≡ record { graph = task.now.graph.now; join = task.now.work.now.join } }
-    ensures held { OnOk result (held.new.tight ≡ held.old.tight) }
+    requires held { held.old.kernels ≡ record { graph = task.now.graph.now; join = task.now.work.now.join } }
+    ensures held { OnOk result (held.new.kernels ≡ held.old.kernels) }
     ensures search { IfOk result (λ s. IsSearch task.now.graph.now task.now.work.now task.now.late s.reached s.visits.items 0) }
     ensures start { IfOk result (λ s. node s.visits.items 0 ≡ task.now.line.head) }
 {
@@ -27,8 +27,7 @@ fn begin(alloc: Global, task: &Task, held: &mut Held) -> Result<Search, NoMemory
         to: line.head,
     };
     let mut search = Search::start(alloc, task.graph.node_count(), step)?;
-    held.widen();
-    try_jump(task, held, &mut search, 0, line.tail)?;
+    try_jump(alloc, task, held, &mut search, 0, line.tail)?;
     Ok(search)
 }
 
@@ -52,8 +51,8 @@ fn way_to(alloc: Global, task: &Task, search: &Search, wanted: u32) -> Result<It
 /// What is forced where the potential of the late arc's head rises by one.
 pub(crate) fn find_forced(alloc: Global, task: &Task, held: &mut Held) -> Result<Forced, NoMemory>
     requires kept { IsKept task.now.graph.now task.now.work.now task.now.late }
-    requires held { held.old.tight ≡ record { graph = task.now.graph.now; join = task.now.work.now.join } }
-    ensures held { OnOk result (held.new.tight ≡ held.old.tight) }
+    requires held { held.old.kernels ≡ record { graph = task.now.graph.now; join = task.now.work.now.join } }
+    ensures held { OnOk result (held.new.kernels ≡ held.old.kernels) }
     ensures forced { IfOk result (IsForced task.now.graph.now task.now.work.now task.now.late task.now.line) }
 {
     task.graph.known();
@@ -65,7 +64,7 @@ pub(crate) fn find_forced(alloc: Global, task: &Task, held: &mut Held) -> Result
     }
     let mut place = 0;
     'places: while place < search.visits.len() {
-        if scan_place(task, held, &mut search, place, tail)? {
+        if scan_place(alloc, task, held, &mut search, place, tail)? {
             let way = way_to(alloc, task, &search, tail)?;
             return Ok(Forced::Way(way));
         }

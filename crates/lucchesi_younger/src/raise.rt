@@ -2,11 +2,12 @@ ghost use Rattle.std.specs.Prelude.{◌≡◌, ◌≢◌, ◌+◌, ℕ, ◌<◌,
 ghost use Rattle.std.specs.Bool.{OnTrue, OnFalse};
 ghost use Rattle.problem_defs.specs.Dijoin.{IsFeasible};
 ghost use Rattle.lucchesi_younger.specs.Kept.{at, AllKept, IsSolved};
-ghost use Rattle.lucchesi_younger.specs.Spent.{IsSpent, IsRaised};
+ghost use Rattle.lucchesi_younger.specs.Spent.{IsSpent, IsRaised, AreRisen};
 
 use crate::change::{raise_by_one, raise_free};
 use crate::dual::all_pieces;
 use crate::held::Held;
+use crate::marks::marks_of;
 use crate::work::{Solved, Work};
 use graph_core::{Counts, Graph, NoMemory, Numbers};
 use std::alloc::Global;
@@ -23,13 +24,13 @@ fn raise_arc(
 ) -> Result<bool, NoMemory>
     requires kept { AllKept graph.now work.old }
     requires number { number < length graph.now.lines }
-    requires held { held.old.tight ≡ record { graph = graph.now; join = work.old.join } }
+    requires held { held.old.kernels ≡ record { graph = graph.now; join = work.old.join } }
     requires more { at work.old.costs number ≤ cost }
     requires room { sum work.old.costs + cost < 2 ^ 64 }
     ensures kept { OnOk result (AllKept graph.now work.new) }
     ensures raised { IfOk result (λ other. IsRaised number cost work.old.costs work.new.costs other) }
     ensures join { IfOk result (λ other. OnFalse other (work.new.join ≡ work.old.join)) }
-    ensures held { IfOk result (λ other. OnFalse other (held.new.tight ≡ held.old.tight)) }
+    ensures held { IfOk result (λ other. OnFalse other (held.new.kernels ≡ held.old.kernels)) }
 {
     if !*held.taken.item(number) {
         raise_free(work, number, cost);
@@ -54,7 +55,7 @@ fn raise_held(
     from: usize,
 ) -> Result<usize, NoMemory>
     requires kept { AllKept graph.now work.old }
-    requires held { held.old.tight ≡ record { graph = graph.now; join = work.old.join } }
+    requires held { held.old.kernels ≡ record { graph = graph.now; join = work.old.join } }
     requires long { length costs.now ≡ length graph.now.lines }
     requires room { sum costs.now < 2 ^ 63 }
     requires spent { IsSpent graph.now.lines costs.now from work.old.costs }
@@ -99,10 +100,35 @@ fn raise_on(
     Ok(next)
 }
 
+/// Raises the costs of the arcs outside the dijoin at once, but for fixed ones. If they rose in their turn, each arc of
+/// the dijoin before them would be exchanged for one that costs nothing yet, and that one again.
+fn raise_untaken(
+    alloc: Global,
+    graph: &Graph,
+    work: &mut Work,
+    costs: &Counts,
+) -> Result<(), NoMemory>
+    requires kept { AllKept graph.now work.old }
+    requires within { (j : ℕ) → at work.old.costs j ≤ at costs.now j }
+    requires long { length costs.now ≡ length graph.now.lines }
+    ensures kept { OnOk result (AllKept graph.now work.new) }
+    ensures within { OnOk result ((j : ℕ) → at work.new.costs j ≤ at costs.now j) }
+    ensures risen { OnOk result (AreRisen graph.now.lines work.old.join costs.now (length graph.now.lines) work.old.costs work.new.costs) }
+{
+    graph.known();
+    let taken = marks_of(alloc, graph.line_count(), &work.join)?;
+    'arcs: for number in 0..graph.line_count() {
+        if !graph.line(number).fixed && !*taken.item(number) {
+            raise_free(work, number, *costs.item(number));
+        }
+    }
+    Ok(())
+}
+
 /// Raises the cost of each arc that isn't fixed.
 fn raise_all(alloc: Global, graph: &Graph, work: &mut Work, costs: &Counts) -> Result<(), NoMemory>
     requires kept { AllKept graph.now work.old }
-    requires none { (j : ℕ) → at work.old.costs j ≡ 0 }
+    requires within { (j : ℕ) → at work.old.costs j ≤ at costs.now j }
     requires long { length costs.now ≡ length graph.now.lines }
     requires room { sum costs.now < 2 ^ 63 }
     ensures kept { OnOk result (AllKept graph.now work.new) }
@@ -147,6 +173,7 @@ pub(crate) fn solve(
         costs: first,
         potential,
     };
+    raise_untaken(alloc, graph, &mut work, costs)?;
     raise_all(alloc, graph, &mut work, costs)?;
     let sides = all_pieces(alloc, graph, &work)?;
     Ok(Solved {

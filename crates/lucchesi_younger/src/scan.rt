@@ -3,12 +3,13 @@ ghost use Rattle.std.specs.Bool.{OnFalse};
 ghost use Rattle.graph_core.specs.Graph.{Fits};
 ghost use Rattle.graph_core.specs.Side.{has};
 ghost use Rattle.lucchesi_younger.specs.Kept.{at, IsArc, IsKept};
-ghost use Rattle.lucchesi_younger.specs.Search.{IsSearch, Grows, IsArcForced, IsArcUnforced, PastArcs, PastJump, PastJumps, IsNear, node, visit};
+ghost use Rattle.lucchesi_younger.specs.Search.{IsSearch, Grows, IsArcForced, IsArcUnforced, PastArcs, PastJump, PastJumps, node, visit};
 
 use crate::held::Held;
 use crate::search::Search;
 use crate::work::{By, Step, Task, Work};
 use graph_core::{Graph, Line, NoMemory, Side};
+use std::alloc::Global;
 
 /// Whether the arc isn't fixed and rises by its cost.
 fn is_full(work: &Work, line: Line, number: usize) -> bool
@@ -26,7 +27,7 @@ fn is_full(work: &Work, line: Line, number: usize) -> bool
 /// The step by which an arc forces another node with this one.
 fn arc_step(task: &Task, held: &Held, number: usize, node: u32) -> Option<Step>
     requires kept { IsKept task.now.graph.now task.now.work.now task.now.late }
-    requires held { held.now.tight ≡ record { graph = task.now.graph.now; join = task.now.work.now.join } }
+    requires held { held.now.kernels ≡ record { graph = task.now.graph.now; join = task.now.work.now.join } }
     requires number { number < length task.now.graph.now.lines }
     ensures { IsArcForced task.now.graph.now task.now.work.now task.now.late number node result }
 {
@@ -58,7 +59,7 @@ fn scan_arc(
     number: usize,
 ) -> Result<(), NoMemory>
     requires kept { IsKept task.now.graph.now task.now.work.now task.now.late }
-    requires held { held.now.tight ≡ record { graph = task.now.graph.now; join = task.now.work.now.join } }
+    requires held { held.now.kernels ≡ record { graph = task.now.graph.now; join = task.now.work.now.join } }
     requires number { number < length task.now.graph.now.lines }
     requires search { IsSearch task.now.graph.now task.now.work.now task.now.late search.old.reached search.old.visits.items place }
     requires place { place < length search.old.visits.items }
@@ -79,7 +80,7 @@ fn scan_arc(
 /// Reaches each node that an arc forces with the one at a place.
 fn scan_arcs(task: &Task, held: &Held, search: &mut Search, place: usize) -> Result<(), NoMemory>
     requires kept { IsKept task.now.graph.now task.now.work.now task.now.late }
-    requires held { held.now.tight ≡ record { graph = task.now.graph.now; join = task.now.work.now.join } }
+    requires held { held.now.kernels ≡ record { graph = task.now.graph.now; join = task.now.work.now.join } }
     requires search { IsSearch task.now.graph.now task.now.work.now task.now.late search.old.reached search.old.visits.items place }
     requires place { place < length search.old.visits.items }
     ensures search { OnOk result (IsSearch task.now.graph.now task.now.work.now task.now.late search.new.reached search.new.visits.items place) }
@@ -94,6 +95,7 @@ fn scan_arcs(task: &Task, held: &Held, search: &mut Search, place: usize) -> Res
 
 /// Reaches a node, if the one at a place forces it by a jump.
 pub(crate) fn try_jump(
+    alloc: Global,
     task: &Task,
     held: &mut Held,
     search: &mut Search,
@@ -101,26 +103,25 @@ pub(crate) fn try_jump(
     to: u32,
 ) -> Result<(), NoMemory>
     requires kept { IsKept task.now.graph.now task.now.work.now task.now.late }
-    requires held { held.old.tight ≡ record { graph = task.now.graph.now; join = task.now.work.now.join } }
+    requires held { held.old.kernels ≡ record { graph = task.now.graph.now; join = task.now.work.now.join } }
     requires to { to < length task.now.graph.now.names }
     requires search { IsSearch task.now.graph.now task.now.work.now task.now.late search.old.reached search.old.visits.items place }
     requires place { place < length search.old.visits.items }
-    requires near { IsNear task.now.graph.now task.now.work.now.join (node search.old.visits.items place) held.old.near }
-    ensures held { OnOk result (held.new.tight ≡ held.old.tight) }
+    ensures held { OnOk result (held.new.kernels ≡ held.old.kernels) }
     ensures search { OnOk result (IsSearch task.now.graph.now task.now.work.now task.now.late search.new.reached search.new.visits.items place) }
     ensures grows { OnOk result (Grows search.old.reached search.new.reached search.old.visits.items search.new.visits.items) }
-    ensures near { OnOk result (IsNear task.now.graph.now task.now.work.now.join (node search.old.visits.items place) held.new.near) }
     ensures past { OnOk result (has search.new.reached to ≡ false → PastJump task.now.graph.now task.now.work.now (node search.old.visits.items place) to) }
 {
     let from = search.visits[place].step.to;
-    if search.reached.has(to) || !held.near.has(to) {
+    if search.reached.has(to) {
         return Ok(());
     }
     let potential = &task.work.potential;
     if *potential.item(from as usize) != *potential.item(to as usize) {
         return Ok(());
     }
-    if held.parts(from, to) {
+    let allowed = held.leads(alloc, from, to)?;
+    if !allowed {
         return Ok(());
     }
     let step = Step {
@@ -134,6 +135,7 @@ pub(crate) fn try_jump(
 
 /// Reaches each node that a jump forces with the one at a place, up to the wanted one.
 fn scan_jumps(
+    alloc: Global,
     task: &Task,
     held: &mut Held,
     search: &mut Search,
@@ -141,23 +143,22 @@ fn scan_jumps(
     wanted: u32,
 ) -> Result<(), NoMemory>
     requires kept { IsKept task.now.graph.now task.now.work.now task.now.late }
-    requires held { held.old.tight ≡ record { graph = task.now.graph.now; join = task.now.work.now.join } }
+    requires held { held.old.kernels ≡ record { graph = task.now.graph.now; join = task.now.work.now.join } }
     requires wanted { wanted < length task.now.graph.now.names }
     requires search { IsSearch task.now.graph.now task.now.work.now task.now.late search.old.reached search.old.visits.items place }
     requires place { place < length search.old.visits.items }
-    ensures held { OnOk result (held.new.tight ≡ held.old.tight) }
+    ensures held { OnOk result (held.new.kernels ≡ held.old.kernels) }
     ensures search { OnOk result (IsSearch task.now.graph.now task.now.work.now task.now.late search.new.reached search.new.visits.items place) }
     ensures grows { OnOk result (Grows search.old.reached search.new.reached search.old.visits.items search.new.visits.items) }
     ensures past { OnOk result (has search.new.reached wanted ≡ false → PastJumps task.now.graph.now task.now.work.now (node search.old.visits.items place) search.new.reached (length task.now.graph.now.names)) }
 {
     task.graph.known();
-    held.widen();
-    try_jump(task, held, search, place, wanted)?;
+    try_jump(alloc, task, held, search, place, wanted)?;
     'nodes: for to in 0..task.graph.node_count() as u32 {
         if search.reached.has(wanted) {
             return Ok(());
         }
-        try_jump(task, held, search, place, to)?;
+        try_jump(alloc, task, held, search, place, to)?;
     }
     Ok(())
 }
@@ -165,6 +166,7 @@ fn scan_jumps(
 /// Reaches each node that is forced with the one at a place, up to the wanted one. Where that place was reached
 /// by a jump, its jumps lead to nodes that are reached already. Tells whether the wanted one is reached.
 pub(crate) fn scan_place(
+    alloc: Global,
     task: &Task,
     held: &mut Held,
     search: &mut Search,
@@ -172,11 +174,11 @@ pub(crate) fn scan_place(
     wanted: u32,
 ) -> Result<bool, NoMemory>
     requires kept { IsKept task.now.graph.now task.now.work.now task.now.late }
-    requires held { held.old.tight ≡ record { graph = task.now.graph.now; join = task.now.work.now.join } }
+    requires held { held.old.kernels ≡ record { graph = task.now.graph.now; join = task.now.work.now.join } }
     requires wanted { wanted < length task.now.graph.now.names }
     requires search { IsSearch task.now.graph.now task.now.work.now task.now.late search.old.reached search.old.visits.items place }
     requires place { place < length search.old.visits.items }
-    ensures held { OnOk result (held.new.tight ≡ held.old.tight) }
+    ensures held { OnOk result (held.new.kernels ≡ held.old.kernels) }
     ensures search { OnOk result (IsSearch task.now.graph.now task.now.work.now task.now.late search.new.reached search.new.visits.items place) }
     ensures done { IfOk result (λ found. OnFalse found (IsSearch task.now.graph.now task.now.work.now task.now.late search.new.reached search.new.visits.items (place + 1))) }
     ensures found { IfOk result (λ found. found ≡ has search.new.reached wanted) }
@@ -189,7 +191,7 @@ pub(crate) fn scan_place(
     if let By::Jumped = search.visits[place].step.by {
         return Ok(false);
     }
-    scan_jumps(task, held, search, place, wanted)?;
+    scan_jumps(alloc, task, held, search, place, wanted)?;
     let found = search.reached.has(wanted);
     Ok(found)
 }

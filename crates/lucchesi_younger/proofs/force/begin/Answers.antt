@@ -1,9 +1,6 @@
-use Rattle.std.proofs.Common.{length, replicate, false, true, set, refl, sym, ap, subst, ◌∙◌, arith}
-use Rattle.std.proofs.lemmas.Bool.{both_ways}
+use Rattle.std.proofs.Common.{length, replicate, false, true, set, refl, sym, subst, ◌∙◌}
 use Rattle.graph_core.specs.Graph.{Fits}
-use Rattle.graph_core.specs.Side.{has}
 use Rattle.graph_core.proofs.Counting.{All-slice_get}
-use Rattle.dicut_lattice.specs.Tight.{TightValue}
 use Rattle.lucchesi_younger.specs.Search.{IsSearch}
 use Rattle.lucchesi_younger.proofs.SearchLaws.{search_start}
 use Rattle.lucchesi_younger.specs.declared.work.By.TheVariants.{Left}
@@ -20,8 +17,3 @@ try_jump-requires-clause-search c =
     subst (λ r. IsSearch g t.work.now t.late r c.in_ok-search.search.visits.items 0) (sym (c.in_ok-search.ensures.reached ∙ (λ i. set (replicate (c.node_count.ensures i) false) l.head true)))
     (subst (λ v. IsSearch g t.work.now t.late (set (replicate (length g.names) false) l.head true) v 0) (sym c.in_ok-search.ensures.visits)
     (search_start g t.work.now t.late st refl fits.head))
-
-pub try_jump-requires-clause-near : goal.try_jump-requires-clause-near
-try_jump-requires-clause-near c v v_in out =
-    let names = ap (λ (t : TightValue). length t.graph.names) c.requires.held in
-    absurd (both_ways (has c.widen.new.self.near v) out (c.widen.ensures.all v (omega arith)))

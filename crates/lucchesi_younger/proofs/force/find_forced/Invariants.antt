@@ -5,7 +5,7 @@ use Rattle.lucchesi_younger.proofs.force.find_forced.Given as goal
 
 abbrev pub invariant-places : goal.invariant-places
 invariant-places l = record {
-  held : l.held.tight ≡ l.fn.held.tight;
+  held : l.held.kernels ≡ l.fn.held.kernels;
   search : IsSearch l.task.graph.now l.task.work.now l.task.late l.search.reached l.search.visits.items l.place;
   below : l.place ≤ length l.search.visits.items;
   start : node l.search.visits.items 0 ≡ l.task.line.head;

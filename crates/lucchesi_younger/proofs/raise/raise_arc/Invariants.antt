@@ -10,6 +10,6 @@ invariant-units l = record {
   sums : sum l.work.costs + at l.initial.work.costs l.number ≡ sum l.initial.work.costs + l.unit;
   from : at l.initial.work.costs l.number ≤ l.unit;
   join : l.work.join ≡ l.initial.work.join;
-  held : l.held.tight ≡ l.initial.held.tight;
+  held : l.held.kernels ≡ l.initial.held.kernels;
   taken : IsIn l.work.join l.number;
 }

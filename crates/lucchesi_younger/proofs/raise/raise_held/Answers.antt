@@ -52,7 +52,7 @@ arcs-preserved c =
             spent = subst (λ (x : Work). IsSpent g.lines costs (i + 1) x.costs) (sym w.work-is) (spent-more g.lines costs i was.costs known.spent new.costs raised);
             sums = omega (arith, known.sums);
             join = ap (λ (x : Work). x.join) w.work-is ∙ OnFalse_at {P = new.join ≡ was.join} w.if-other.false more.join ∙ known.join;
-            held = ap (λ (h : Held). h.tight) w.held-is ∙ OnFalse_at {P = w.raise_arc.new.held.tight ≡ c.arcs.held.tight} w.if-other.false more.held ∙ known.held;
+            held = ap (λ (h : Held). h.kernels) w.held-is ∙ OnFalse_at {P = w.raise_arc.new.held.kernels ≡ c.arcs.held.kernels} w.if-other.false more.held ∙ known.held;
           }
       | else-not-line w ↦
           let same = ap (λ (x : Work). sum x.costs) w.work-is in
@@ -62,6 +62,6 @@ arcs-preserved c =
                 (spent-same g.lines costs i was.costs known.spent c.line.result c.line.ensures (not-false c.line.result.fixed w.if-not-line.false));
             sums = omega (arith, known.sums);
             join = ap (λ (x : Work). x.join) w.work-is ∙ known.join;
-            held = ap (λ (h : Held). h.tight) w.held-is ∙ known.held;
+            held = ap (λ (h : Held). h.kernels) w.held-is ∙ known.held;
           }
     ]

@@ -9,5 +9,5 @@ invariant-arcs l = record {
   spent : IsSpent l.graph.lines l.costs l.number l.work.costs;
   sums : sum l.initial.work.costs ≤ sum l.work.costs;
   join : l.work.join ≡ l.initial.work.join;
-  held : l.held.tight ≡ l.initial.held.tight;
+  held : l.held.kernels ≡ l.initial.held.kernels;
 }

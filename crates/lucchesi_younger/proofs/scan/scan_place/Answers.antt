@@ -1,7 +1,7 @@
-use Rattle.std.proofs.Common.{◌≡◌, ◌+◌, ◌<◌, ◌∙◌, length, Bool, true, false, sym, ap, subst, arith}
-use Rattle.std.specs.Bool.{OnFalse}
+use Rattle.std.proofs.Common.{◌≡◌, ◌+◌, ◌<◌, ◌∙◌, length, sym, ap, subst, arith}
 use Rattle.graph_core.specs.Side.{has}
 use Rattle.lucchesi_younger.specs.Search.{IsSearch, PastArcs, PastJumps, node, visit}
+use Rattle.lucchesi_younger.proofs.Booleans.{on-false}
 use Rattle.lucchesi_younger.proofs.SearchLaws.{visit_read, grows_trans, search_next, unforced, past_jump}
 use Rattle.lucchesi_younger.specs.declared.work.By.TheVariants.{Jumped}
 use Rattle.lucchesi_younger.specs.declared.work.Visit.{Visit}
@@ -24,11 +24,6 @@ returns-in-Jumped-clause-done c =
     search_next g w c.args.task.now.late new.reached visits place done.search
     (λ v v_in out. unforced g w c.args.task.now.late new.reached visits place done.search arcs v out (past_jump g w c.args.task.now.late new.reached visits place done.search below by v v_in out))
 
--- where the wanted node isn't reached
-on_false : (b x : Bool) (P : Type 0) → b ≡ x → (x ≡ false → P) → OnFalse b P
-on_false true x P e h = tt
-on_false false x P e h = h (sym e)
-
 pub returns : goal.returns
 returns c =
     let g = c.args.task.now.graph.now in
@@ -49,7 +44,7 @@ returns c =
     record {
       held = next.held;
       search = next.search;
-      done = on_false c.has-found.result (has new.reached c.args.wanted) (IsSearch g w c.args.task.now.late new.reached visits (place + 1)) c.has-found.ensures (λ fresh.
+      done = on-false c.has-found.result (has new.reached c.args.wanted) (IsSearch g w c.args.task.now.late new.reached visits (place + 1)) c.has-found.ensures (λ fresh.
           let jumps = subst (λ u. PastJumps g w u new.reached (length g.names)) (sym same) (next.past fresh) in
           search_next g w c.args.task.now.late new.reached visits place next.search (λ v v_in out. unforced g w c.args.task.now.late new.reached visits place next.search arcs v out (jumps v v_in out)));
       found = c.has-found.ensures;

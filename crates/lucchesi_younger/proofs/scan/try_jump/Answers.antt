@@ -4,7 +4,7 @@ use Rattle.std.proofs.lemmas.Option.{get_or_from_slice_get}
 use Rattle.graph_core.specs.Side.{has}
 use Rattle.dicut_lattice.specs.Tight.{TightValue, IsAllowed, AreSeparated}
 use Rattle.lucchesi_younger.specs.Kept.{at}
-use Rattle.lucchesi_younger.specs.Search.{IsNear, node}
+use Rattle.lucchesi_younger.specs.Search.{node}
 use Rattle.lucchesi_younger.proofs.SearchLaws.{visit_read, node_in, jump_leads, search_pushed}
 use Rattle.lucchesi_younger.specs.declared.work.Visit.{Visit}
 use Rattle.lucchesi_younger.proofs.scan.try_jump.Goals as goal
@@ -17,20 +17,13 @@ item-requires c =
     let long = c.requires.kept.potential_long in
     omega arith
 
-pub parts-requires-clause-holds : goal.parts-requires-clause-holds
-parts-requires-clause-holds c =
+pub leads-requires-clause-from : goal.leads-requires-clause-from
+leads-requires-clause-from c =
     let visits = c.args.search.now.visits.items in
     let from : c.index.result.now.step.to ≡ node visits c.args.place = ap (λ (v : Visit). v.step.to) (visit_read visits c.args.place c.index.result.now c.requires.place c.index.ensures) in
     let inside = node_in c.args.task.now.graph.now c.args.task.now.work.now c.args.task.now.late c.args.search.now.reached visits c.args.place c.requires.search c.args.place c.requires.place in
-    let same : length c.args.held.now.tight.graph.names ≡ length c.args.task.now.graph.now.names = ap (λ (t : TightValue). length t.graph.names) c.requires.held in
+    let same : length c.args.held.now.kernels.graph.names ≡ length c.args.task.now.graph.now.names = ap (λ (t : TightValue). length t.graph.names) c.requires.held in
     omega arith
-
-pub parts-requires-clause-near : goal.parts-requires-clause-near
-parts-requires-clause-near c =
-    let visits = c.args.search.now.visits.items in
-    let from : c.index.result.now.step.to ≡ node visits c.args.place = ap (λ (v : Visit). v.step.to) (visit_read visits c.args.place c.index.result.now c.requires.place c.index.ensures) in
-    subst (λ (t : TightValue). IsNear t.graph t.join c.index.result.now.step.to c.args.held.now.near) (sym c.requires.held)
-    (subst (λ u. IsNear c.args.task.now.graph.now c.args.task.now.work.now.join u c.args.held.now.near) (sym from) c.requires.near)
 
 pub returns-then-item-clause-past : goal.returns-then-item-clause-past
 returns-then-item-clause-past c out same =
@@ -41,28 +34,13 @@ returns-then-item-clause-past c out same =
     let two = get_or_from_slice_get p c.args.to c.item-2.result.now 0 c.item-2.ensures in
     absurd (c.if-item.true (sym one ∙ ap (at p) from ∙ same ∙ two))
 
-pub returns-then-parts-clause-near : goal.returns-then-parts-clause-near
-returns-then-parts-clause-near c =
+pub returns-then-not-allowed-clause-past : goal.returns-then-not-allowed-clause-past
+returns-then-not-allowed-clause-past c out same =
     let visits = c.args.search.now.visits.items in
     let from : c.index.result.now.step.to ≡ node visits c.args.place = ap (λ (v : Visit). v.step.to) (visit_read visits c.args.place c.index.result.now c.requires.place c.index.ensures) in
-    subst (λ u. IsNear c.args.task.now.graph.now c.args.task.now.work.now.join u c.parts.new.self.near) from
-    (subst (λ (t : TightValue). IsNear t.graph t.join c.index.result.now.step.to c.parts.new.self.near) c.requires.held c.parts.ensures.near)
-
-pub returns-then-parts-clause-past : goal.returns-then-parts-clause-past
-returns-then-parts-clause-past c out same =
-    let visits = c.args.search.now.visits.items in
-    let from : c.index.result.now.step.to ≡ node visits c.args.place = ap (λ (v : Visit). v.step.to) (visit_read visits c.args.place c.index.result.now c.requires.place c.index.ensures) in
-    let g = c.args.held.now.tight.graph in
     subst (λ u. AreSeparated c.args.task.now.graph.now c.args.task.now.work.now.join u c.args.to) from
     (subst (λ (t : TightValue). AreSeparated t.graph t.join c.index.result.now.step.to c.args.to) c.requires.held
-    (OnTrue_at {P = AreSeparated c.args.held.now.tight.graph c.args.held.now.tight.join c.index.result.now.step.to c.args.to} c.if-parts.true c.parts.ensures.parted))
-
-pub returns-clause-near : goal.returns-clause-near
-returns-clause-near c =
-    let visits = c.args.search.now.visits.items in
-    let from : c.index.result.now.step.to ≡ node visits c.args.place = ap (λ (v : Visit). v.step.to) (visit_read visits c.args.place c.index.result.now c.requires.place c.index.ensures) in
-    subst (λ u. IsNear c.args.task.now.graph.now c.args.task.now.work.now.join u c.parts.new.self.near) from
-    (subst (λ (t : TightValue). IsNear t.graph t.join c.index.result.now.step.to c.parts.new.self.near) c.requires.held c.parts.ensures.near)
+    (OnFalse_at {P = AreSeparated c.args.held.now.kernels.graph c.args.held.now.kernels.join c.index.result.now.step.to c.args.to} c.if-not-allowed.true c.in_ok-allowed.ensures.no))
 
 pub returns-clause-search : goal.returns-clause-search
 returns-clause-search c =
@@ -74,7 +52,7 @@ returns-clause-search c =
     let fresh : has c.args.search.now.reached c.args.to ≡ false = sym c.has.ensures ∙ c.if-has.false in
     let one = get_or_from_slice_get w.potential u c.item.result.now 0 c.item.ensures in
     let two = get_or_from_slice_get w.potential c.args.to c.item-2.result.now 0 c.item-2.ensures in
-    let allowed = subst (λ (t : TightValue). IsAllowed t.graph t.join c.args.to u) c.requires.held (OnFalse_at {P = IsAllowed c.args.held.now.tight.graph c.args.held.now.tight.join c.args.to u} c.if-parts.false c.parts.ensures.none) in
+    let allowed = subst (λ (t : TightValue). IsAllowed t.graph t.join c.args.to u) c.requires.held (OnTrue_at {P = IsAllowed c.args.held.now.kernels.graph c.args.held.now.kernels.join c.args.to u} c.if-not-allowed.false c.in_ok-allowed.ensures.yes) in
     let leads = jump_leads g w c.args.task.now.late c.args.search.now.reached visits c.args.place c.requires.search c.requires.place u c.args.to from c.requires.to fresh (one ∙ c.if-item.false ∙ sym two) allowed in
     search_pushed g w c.args.task.now.late c.args.search.now.reached visits c.args.place c.requires.search _ c.requires.place leads from fresh
     c.reach.new.self.reached c.reach.new.self.visits.items c.in_ok-reach.ensures.reached c.in_ok-reach.ensures.visits
