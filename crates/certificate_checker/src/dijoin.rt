@@ -185,7 +185,10 @@ impl Decide for DijoinAsk {
     // arcs cost together, show already that a longer list isn't right, however long it is.
     fn is_dual(&self, graph: &Graph, dual: &Sides) -> bool {
         let sides = dual.as_slice();
-        let some = sides.len().min(total_cost(graph) + 1);
-        is_family(graph, &sides[..some]) && (some == sides.len() || is_family(graph, sides))
+        let most = total_cost(graph) + 1;
+        if most < sides.len() && !is_family(graph, &sides[..most]) {
+            return false;
+        }
+        is_family(graph, sides)
     }
 }
