@@ -185,8 +185,8 @@ impl Decide for DijoinAsk {
     // arcs cost together, show already that a longer list isn't right, however long it is.
     fn is_dual(&self, graph: &Graph, dual: &Sides) -> bool {
         let sides = dual.as_slice();
-        let most = total_cost(graph) + 1;
-        if most < sides.len() && !is_family(graph, &sides[..most]) {
+        let most = total_cost(graph);
+        if most < sides.len() && !is_family(graph, &sides[..most + 1]) {
             return false;
         }
         is_family(graph, sides)

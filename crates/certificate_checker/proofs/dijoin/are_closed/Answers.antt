@@ -1,4 +1,4 @@
-use Rattle.std.proofs.Common.{◌∙◌, ◌↔◌, false, true, sym, All, IsTrue, subst}
+use Rattle.std.proofs.Common.{◌∙◌, sym, subst}
 use Rattle.std.proofs.lemmas.Bool.{false≢true}
 use Rattle.std.proofs.lemmas.List.Elements.{All-more}
 use Rattle.problem_defs.specs.Dijoin.{IsClosed}
@@ -7,16 +7,13 @@ use Rattle.certificate_checker.proofs.dijoin.are_closed.Goals as goal
 
 pub returns-then-not-is_closed : goal.returns-then-not-is_closed
 returns-then-not-is_closed c =
-    subst (λ sides. IsTrue false ↔ All (IsClosed c.args.graph.now) sides) c.as_slice-side-items.ensures
-    (scan-stops (IsClosed c.args.graph.now) c.as_slice-side-items.result.now c.loop-side.side-index _ c.side-item.result c.loop-side-test.true c.side-item.is
-    (λ closed. false≢true (sym c.if-not-is_closed.true ∙ c.is_closed.ensures.1 closed)))
+    scan-stops (IsClosed c.args.graph.now) c.args.sides.now c.loop-side.side-index c.side-item.result c.side-item.result c.loop-side-test.true c.side-item.is
+    (λ closed. false≢true (sym c.if-not-is_closed.true ∙ c.is_closed.ensures.1 closed))
 
 pub loop-side-preserved : goal.loop-side-preserved
 loop-side-preserved c =
-    All-more (IsClosed c.args.graph.now) c.as_slice-side-items.result.now c.loop-side.side-index c.side-item.result c.loop-side-test.true c.loop-side.invariant
+    All-more (IsClosed c.args.graph.now) c.args.sides.now c.loop-side.side-index c.side-item.result c.loop-side-test.true c.loop-side.invariant
     (subst (IsClosed c.args.graph.now) c.side-item.is (c.is_closed.ensures.0 c.if-not-is_closed.false))
 
 pub returns : goal.returns
-returns c =
-    subst (λ sides. IsTrue true ↔ All (IsClosed c.args.graph.now) sides) c.as_slice-side-items.ensures
-    (scan-ends (IsClosed c.args.graph.now) c.as_slice-side-items.result.now c.loop-side.side-index c.loop-side-test.false c.loop-side.invariant)
+returns c = scan-ends (IsClosed c.args.graph.now) c.args.sides.now c.loop-side.side-index c.loop-side-test.false c.loop-side.invariant

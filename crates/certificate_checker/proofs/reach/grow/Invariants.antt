@@ -7,7 +7,7 @@ use Rattle.certificate_checker.proofs.reach.grow.Given as goal
 
 abbrev pub invariant-loop-more : goal.invariant-loop-more
 invariant-loop-more l = record {
-  grown : IsGrown (l.before ++ l.behind) l.fn.side.now l.side;
+  grown : IsGrown (l.before ++ l.behind) l.fn.side l.side;
   done : OnFalse l.more (AreUncrossed l.side (l.before ++ l.behind));
 }
 
