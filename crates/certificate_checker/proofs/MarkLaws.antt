@@ -1,15 +1,12 @@
 -- Marks count how often numbers stand in rows.
-use Rattle.std.proofs.Common.{◌≡◌, ℕ, ◌+◌, ◌<◌, ◌≤◌, ◌==◌, Bool, true, false, cond, List, length, take, get_or, refl, sym, ap, ◌∙◌, eq-eqb, replicate, IsTrue, ◌↔◌, lit≤, arith}
+use Rattle.std.proofs.Common.{◌≡◌, ℕ, ◌+◌, ◌<◌, ◌≤◌, ◌==◌, Bool, true, false, cond, List, length, take, get_or, refl, sym, ap, ◌∙◌, replicate, IsTrue, ◌↔◌, arith}
 use Rattle.std.specs.Prelude.{All}
-use Rattle.std.specs.Bool.{OnTrue, OnFalse}
-use Rattle.std.proofs.lemmas.Bool.{false≢true}
 use Rattle.std.specs.List.{concat, sum_by}
 use Rattle.std.proofs.lemmas.List.Elements.{All-from_get_or}
 use Rattle.std.proofs.lemmas.List.Sums.{sum_by_more, sum_by_more_le}
 use Rattle.graph_core.specs.Picked.{occurrences, mark}
 use Rattle.graph_core.specs.Side.{has}
 use Rattle.graph_core.proofs.Counting.{sum_by-concat}
-use Rattle.graph_core.proofs.SideLaws.{has-none}
 use Rattle.graph_core.proofs.MarkLaws.{unmarked}
 
 in_rows : (x : ℕ) (rows : List (List ℕ)) → occurrences x (concat rows) ≡ sum_by (occurrences x) rows

@@ -1,5 +1,5 @@
 -- The sides that pairs of nodes cut, as those of a tree do. No public clause cites it.
-use Rattle.std.specs.Prelude.{◌≡◌, ℕ, ◌+◌, ◌<◌, ◌≤◌, Bool, true, false, ◌&&◌, List, length, slice_index_or, remove, count_by, All}
+use Rattle.std.specs.Prelude.{◌≡◌, ℕ, ◌+◌, ◌≤◌, Bool, true, false, ◌&&◌, List, length, remove, count_by, All}
 use Rattle.graph_core.specs.Side.{has, size}
 use Rattle.problem_defs.specs.Pairs.{pair_at}
 

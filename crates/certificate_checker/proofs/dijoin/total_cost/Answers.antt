@@ -1,4 +1,4 @@
-use Rattle.std.proofs.Common.{◌≤◌, All, sum_by, subst, sym, get_or, arith, ap}
+use Rattle.std.proofs.Common.{◌≤◌, sum_by, arith, ap}
 use Rattle.std.proofs.lemmas.List.Elements.{All-weaker}
 use Rattle.std.proofs.lemmas.List.Sums.{sum_by_more_le, sum_by-le}
 use Rattle.graph_core.specs.Graph.{IsPriced, no_line}
