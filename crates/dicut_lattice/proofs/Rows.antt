@@ -1,35 +1,30 @@
 -- Rows of nodes: they begin with each node and the heads of its arcs, and go on from node to node until each is what its node reaches.
-use Rattle.std.specs.Prelude.{ℕ, ◌≡◌, ◌≢◌, ◌+◌, ◌<◌, ◌≤◌, Bool, true, false, not, ◌&&◌, ◌||◌, ◌⊎◌, List, [], ◌∷◌, ◌++◌, length, slice_index_or, slice_set, slice_get, Some, All, refl}
-use Rattle.std.proofs.Common.{ap, sym, ◌∙◌, inl, inr, arith, subst, length-append}
-use Rattle.std.proofs.lemmas.Bool.{cases_eq, cases_lt}
+use Rattle.std.specs.Prelude.{ℕ, ◌≡◌, ◌≢◌, ◌+◌, ◌<◌, ◌≤◌, Bool, true, false, ◌&&◌, ◌||◌, ◌⊎◌, List, [], ◌∷◌, ◌++◌, length, slice_index_or, slice_set, All}
+use Rattle.std.proofs.Common.{ap, sym, ◌∙◌, inl, inr, arith, length-append}
+use Rattle.std.proofs.lemmas.Bool.{cases_eq, cases_lt, and_parts, and_from, or_cases, or_left, or_right}
 use Rattle.std.proofs.lemmas.List.{length-set, get_or-set_same, get_or-set_other, get_or_past, get_or_push, get_or_append_left}
 use Rattle.std.proofs.lemmas.Simd.{length-zip2}
-use Rattle.std.proofs.lemmas.List.Elements.{All-get_or, All-set, All-push, All-weaker, All-nil}
+use Rattle.std.proofs.lemmas.List.Elements.{All-get_or, All-set, All-push, All-weaker}
 use Rattle.graph_core.specs.Graph.{GraphValue, Fits}
 use Rattle.graph_core.specs.Side.{has, join, IsOnly}
 use Rattle.graph_core.specs.Lines.{leaves, leaving}
 use Rattle.graph_core.specs.declared.graph.Line.{Line}
 use Rattle.graph_core.proofs.Counting.{none-pass, count_by-fails, All-both}
-use Rattle.graph_core.proofs.SideLaws.{has-below}
-use Rattle.dicut_lattice.specs.Reach.{IsReach, leads, leads_by, AreSquare, AreRows, AreOwn, LeadsTo, LeadsOn, LeadOnBelow, AreReached}
+use Rattle.dicut_lattice.specs.Reach.{leads, leads_by, AreSquare, AreRows, AreOwn, LeadsTo, LeadsOn, LeadOnBelow, AreReached}
 use Rattle.dicut_lattice.proofs.ClosedSides.{has-join, not_out, never_out}
 
 -- one row is exchanged
-pub row-long : {n : ℕ} (rows : List (List Bool)) → AreSquare n rows → (v : ℕ) → v < n → length (slice_index_or rows v []) ≡ n
+row-long : {n : ℕ} (rows : List (List Bool)) → AreSquare n rows → (v : ℕ) → v < n → length (slice_index_or rows v []) ≡ n
 row-long {n} rows s v l = let e = s.count in All-get_or (λ R. length R ≡ n) rows v [] (omega arith) s.long
 
-pub square-set : {n : ℕ} (rows : List (List Bool)) (v : ℕ) (R : List Bool) → AreSquare n rows → length R ≡ n → AreSquare n (slice_set rows v R)
+square-set : {n : ℕ} (rows : List (List Bool)) (v : ℕ) (R : List Bool) → AreSquare n rows → length R ≡ n → AreSquare n (slice_set rows v R)
 square-set {n} rows v R s long = record { count = length-set rows v R ∙ s.count; long = All-set (λ X. length X ≡ n) rows v R long s.long }
 
-pub leads-set : (rows : List (List Bool)) (v w : ℕ) (R : List Bool) → v < length rows → leads (slice_set rows v R) v w ≡ has R w
+leads-set : (rows : List (List Bool)) (v w : ℕ) (R : List Bool) → v < length rows → leads (slice_set rows v R) v w ≡ has R w
 leads-set rows v w R l = ap (λ X. has X w) (get_or-set_same rows v R [] l)
 
-pub leads-other : (rows : List (List Bool)) (v u w : ℕ) (R : List Bool) → u ≢ v → leads (slice_set rows v R) u w ≡ leads rows u w
+leads-other : (rows : List (List Bool)) (v u w : ℕ) (R : List Bool) → u ≢ v → leads (slice_set rows v R) u w ≡ leads rows u w
 leads-other rows v u w R ne = ap (λ X. has X w) (get_or-set_other rows v u R [] ne)
-
--- where a row has a node
-pub in_row : {n : ℕ} (rows : List (List Bool)) → AreSquare n rows → (v w : ℕ) → v < n → leads rows v w ≡ true → w < n
-in_row rows s v w l h = let e = row-long rows s v l in omega (arith, has-below (slice_index_or rows v []) w h)
 
 -- the row of k is joined to that of v
 module _ (rows : List (List Bool)) (s : AreSquare (length rows) rows) (v k : ℕ) (v_in : v < length rows) (k_in : k < length rows) where
@@ -74,26 +69,18 @@ module _ (k v : ℕ) (first rows new : List (List Bool)) (done : (u w : ℕ) →
     left-more u w l = others u w (λ e. absurd (omega arith)) ∙ left u w (omega arith)
 
 -- one step keeps what rows are, and reaches on by one node more
-either : (a b c : Bool) → (a || (b && c)) ≡ true → (a ≡ true) ⊎ ((b ≡ true) × (c ≡ true))
-either true b c h = inl refl
-either false true c h = inr (refl, h)
-either false false c h = absurd cc
-
-first_of_two : (a b c : Bool) → a ≡ true → (a || (b && c)) ≡ true
-first_of_two a b c h = grind arith
-
-then_on : (a b c : Bool) → b ≡ true → c ≡ true → (a || (b && c)) ≡ true
-then_on a b c h k = grind arith
-
 module _ {k : ℕ} {old new : List (List Bool)} (s : LeadsOn k old new) where
   by-is : (v w : ℕ) → leads new v w ≡ true → (leads old v w ≡ true) ⊎ ((leads old v k ≡ true) × (leads old k w ≡ true))
-  by-is v w h = either (leads old v w) (leads old v k) (leads old k w) (sym (s.by v w) ∙ h)
+  by-is v w h = elim (or_cases (leads old v w) (leads old v k && leads old k w) (sym (s.by v w) ∙ h)) [
+    | inl is ↦ inl is
+    | inr on ↦ inr (and_parts (leads old v k) (leads old k w) on)
+  ]
 
   kept : (v w : ℕ) → leads old v w ≡ true → leads new v w ≡ true
-  kept v w h = s.by v w ∙ first_of_two (leads old v w) (leads old v k) (leads old k w) h
+  kept v w h = s.by v w ∙ or_left (leads old v w) (leads old v k && leads old k w) h
 
   along_k : (v w : ℕ) → leads old v k ≡ true → leads old k w ≡ true → leads new v w ≡ true
-  along_k v w h i = s.by v w ∙ then_on (leads old v w) (leads old v k) (leads old k w) h i
+  along_k v w h i = s.by v w ∙ or_right (leads old v w) (leads old v k && leads old k w) (and_from (leads old v k) (leads old k w) h i)
 
   pub rows-on : {g : GraphValue} {ls : List Line} → AreRows g ls old → AreRows g ls new
   rows-on {g} {ls} r = record {
@@ -116,9 +103,9 @@ module _ {k : ℕ} {old new : List (List Bool)} (s : LeadsOn k old new) where
   below_k : LeadOnBelow k old → (v x w : ℕ) → x < k → leads new v x ≡ true → leads new x w ≡ true → leads new v w ≡ true
   below_k on v x w l h i = elim (by-is x w i) [
     | inl is ↦ elim (by-is v x h) [
-        | inl old_h ↦ kept v w (on v x w l old_h is)
-        | inr by ↦ along_k v w by.0 (on k x w l by.1 is)
-      ]
+      | inl old_h ↦ kept v w (on v x w l old_h is)
+      | inr by ↦ along_k v w by.0 (on k x w l by.1 is)
+    ]
     | inr by ↦ along_k v w (to_k v x h by.0 on l) by.1
   ]
 
@@ -158,9 +145,9 @@ reached g rows fits r on v v_in =
       long = row-long rows r.square v v_in;
       holds = r.here v v_in;
       closed = count_by-fails (leaves R) g.lines
-      (All-both (λ l. leads rows l.tail l.head ≡ true) (Fits (length g.names)) (λ l. leaves R l ≡ false)
-      (λ l along fit. never_out (has R l.tail) (has R l.head) (λ h. on v l.tail l.head fit.tail h along))
-      g.lines r.along fits);
+          (All-both (λ l. leads rows l.tail l.head ≡ true) (Fits (length g.names)) (λ l. leaves R l ≡ false)
+          (λ l along fit. never_out (has R l.tail) (has R l.head) (λ h. on v l.tail l.head fit.tail h along))
+          g.lines r.along fits);
       least = λ W none in_v u h. r.within W none v u in_v h;
     }
 
@@ -179,19 +166,8 @@ own-push {n} {v} rows row a long only =
       own = λ u w h. elim (cases_lt u v) [
         | inl l ↦ a.own u w (sym (front u w l) ∙ h)
         | inr past ↦ elim (cases_eq u v) [
-            | inl e ↦ rw e (only.only w (sym (here w) ∙ (rw e at h)))
-            | inr ne ↦ absurd (let none = get_or_past (rows ++ row ∷ []) u [] (let e = a.count in omega (arith, length-append rows (row ∷ []))) in let off : leads (rows ++ row ∷ []) u w ≡ false = ap (λ X. has X w) none in cc)
-          ]
+          | inl e ↦ rw e (only.only w (sym (here w) ∙ (rw e at h)))
+          | inr ne ↦ absurd (let none = get_or_past (rows ++ row ∷ []) u [] (let e = a.count in omega (arith, length-append rows (row ∷ []))) in let off : leads (rows ++ row ∷ []) u w ≡ false = ap (λ X. has X w) none in cc)
+        ]
       ];
     }
-
-pub own-none : (n : ℕ) → AreOwn n 0 []
-own-none n = record { count = refl; long = All-nil (λ R. length R ≡ n); here = λ u l. absurd (omega arith); own = λ u w h. absurd cc }
-
-pub own-rows : (g : GraphValue) (rows : List (List Bool)) → AreOwn (length g.names) (length g.names) rows → AreRows g [] rows
-own-rows g rows a = record {
-  square = record { count = a.count; long = a.long };
-  here = a.here;
-  along = All-nil (λ l. leads rows l.tail l.head ≡ true);
-  within = λ W none v w in_v h. rw (a.own v w h) in_v;
-}

@@ -1,14 +1,14 @@
 -- Sets that spread until no arc leaves them and one arc of a dijoin at most enters them, and what these have in common.
-use Rattle.std.specs.Prelude.{ℕ, zero, suc, ◌≡◌, ◌≢◌, ◌+◌, ◌<◌, ◌≤◌, Bool, true, false, not, ◌&&◌, ◌||◌, ◌⊎◌, List, [], ◌∷◌, length, replicate, slice_set, slice_get, Some, count_by, refl}
+use Rattle.std.specs.Prelude.{ℕ, zero, suc, ◌≡◌, ◌≢◌, ◌+◌, ◌<◌, ◌≤◌, Bool, true, false, ◌&&◌, ◌||◌, List, [], ◌∷◌, length, replicate, slice_set, slice_get, Some, count_by, refl}
 use Rattle.std.proofs.Common.{ap, sym, ◌∙◌, inl, inr, arith, subst}
-use Rattle.std.specs.Bool.{OnTrue, OnFalse}
-use Rattle.std.proofs.lemmas.Bool.{cases_eq, cases_Bool}
+use Rattle.std.specs.Bool.{OnFalse}
+use Rattle.std.proofs.lemmas.Bool.{cases_eq, cases_Bool, and_parts, or_cases, or_left, or_right}
 use Rattle.std.proofs.lemmas.List.{length-set, length-replicate, get_or-set_other}
 use Rattle.std.proofs.lemmas.Simd.{length-zip2}
 use Rattle.std.proofs.lemmas.Option.{slice_get_within}
 use Rattle.graph_core.specs.Graph.{GraphValue}
 use Rattle.graph_core.specs.Side.{has, size, meet, join}
-use Rattle.graph_core.specs.Lines.{enters, leaving, entering}
+use Rattle.graph_core.specs.Lines.{enters, leaving}
 use Rattle.graph_core.specs.Picked.{picked}
 use Rattle.graph_core.specs.declared.graph.Line.{Line}
 use Rattle.graph_core.proofs.Counting.{weight, none-pass, All-slice_get}
@@ -16,39 +16,29 @@ use Rattle.graph_core.proofs.CutLaws.{leaving_meets}
 use Rattle.graph_core.proofs.ProperLaws.{is_proper}
 use Rattle.graph_core.proofs.PutLaws.{size-put}
 use Rattle.graph_core.proofs.SideLaws.{has-none, has-below}
-use Rattle.graph_core.proofs.SizeLaws.{count-cons, weight_true, weight_false, weight_most, size-ge_sum, size-none}
+use Rattle.graph_core.proofs.SizeLaws.{count-cons, weight_true, weight_false, weight_most, size-ge_sum}
 use Rattle.problem_defs.specs.Dijoin.{IsClosed, IsFeasible}
 use Rattle.dicut_lattice.specs.Reach.{IsReach}
-use Rattle.dicut_lattice.specs.Spread.{GoesBack, IsSpread, IsSpreading, StepsBack, HasPassed, IsLeastSpread, SpreadsBetween, IsCommon}
-use Rattle.dicut_lattice.specs.Tight.{joins, IsTight, IsKernel, IsAllowed, AreSeparated}
+use Rattle.dicut_lattice.specs.Spread.{GoesBack, IsSpread, StepsBack, HasPassed, IsLeastSpread, SpreadsBetween, IsCommon}
+use Rattle.dicut_lattice.specs.Tight.{joins, IsTight, IsKernel, AreSeparated}
 use Rattle.dicut_lattice.proofs.ClosedSides.{has-meet, has-join, not_out, never_out}
 
 -- the union with what a node reaches
-either : (a b : Bool) → (a || b) ≡ true → (a ≡ true) ⊎ (b ≡ true)
-either true b h = inl refl
-either false b h = inr h
-
-left_in : (a b : Bool) → a ≡ true → (a || b) ≡ true
-left_in a b h = grind arith
-
-right_in : (a b : Bool) → b ≡ true → (a || b) ≡ true
-right_in a b h = grind arith
-
 module _ (g : GraphValue) (y : ℕ) (X R : List Bool) (long : length X ≡ length g.names) (r : IsReach g y R) where
   alike : length X ≡ length R
   alike = long ∙ sym r.long
 
-  pub join-closed : leaving X g.lines ≡ 0 → leaving (join X R) g.lines ≡ 0
+  join-closed : leaving X g.lines ≡ 0 → leaving (join X R) g.lines ≡ 0
   join-closed none = let law = leaving_meets g.lines X R long r.long in let e = r.closed in omega arith
 
-  pub join-kept : (v : ℕ) → has X v ≡ true → has (join X R) v ≡ true
-  join-kept v h = has-join X R v alike ∙ left_in (has X v) (has R v) h
+  join-kept : (v : ℕ) → has X v ≡ true → has (join X R) v ≡ true
+  join-kept v h = has-join X R v alike ∙ or_left (has X v) (has R v) h
 
-  pub join-gets : has (join X R) y ≡ true
-  join-gets = has-join X R y alike ∙ right_in (has X y) (has R y) r.holds
+  join-gets : has (join X R) y ≡ true
+  join-gets = has-join X R y alike ∙ or_right (has X y) (has R y) r.holds
 
-  pub join-within : (W : List Bool) → leaving W g.lines ≡ 0 → has W y ≡ true → ((v : ℕ) → has X v ≡ true → has W v ≡ true) → (v : ℕ) → has (join X R) v ≡ true → has W v ≡ true
-  join-within W none in_y sub v h = elim (either (has X v) (has R v) (sym (has-join X R v alike) ∙ h)) [
+  join-within : (W : List Bool) → leaving W g.lines ≡ 0 → has W y ≡ true → ((v : ℕ) → has X v ≡ true → has W v ≡ true) → (v : ℕ) → has (join X R) v ≡ true → has W v ≡ true
+  join-within W none in_y sub v h = elim (or_cases (has X v) (has R v) (sym (has-join X R v alike) ∙ h)) [
     | inl in_x ↦ sub v in_x
     | inr in_r ↦ r.least W none in_y v in_r
   ]
@@ -58,7 +48,7 @@ weight_kept : (a b : Bool) → (a ≡ true → b ≡ true) → weight a + weight
 weight_kept true b h = rw (h refl) (omega arith)
 weight_kept false b h = omega arith
 
-pub size-grows : (X Y : List Bool) (v : ℕ) → length Y ≡ length X → ((u : ℕ) → has X u ≡ true → has Y u ≡ true) → has X v ≡ false → has Y v ≡ true → size X < size Y
+size-grows : (X Y : List Bool) (v : ℕ) → length Y ≡ length X → ((u : ℕ) → has X u ≡ true → has Y u ≡ true) → has X v ≡ false → has Y v ≡ true → size X < size Y
 size-grows X Y v long kept out in_y =
     let l : v < length X = let b = has-below Y v in_y in omega arith in
     let P = slice_set X v true in
@@ -73,10 +63,6 @@ size-grows X Y v long kept out in_y =
       | inl e ↦ rw e in_y
       | inr ne ↦ kept u (sym (get_or-set_other X v u true false ne) ∙ h)
     ]
-
--- what a node reaches is spreading
-pub reach-spreading : (g : GraphValue) (arcs : List Line) (skip y : ℕ) (R : List Bool) → IsReach g y R → IsSpreading g arcs skip y R
-reach-spreading g arcs skip y R r = record { long = r.long; holds = r.holds; closed = r.closed; within = λ W w in_y v h. r.least W w.closed in_y v h }
 
 -- the tail of a line joins a set with its head
 pub steps-back : (g : GraphValue) (l : Line) (X R : List Bool) → length X ≡ length g.names → IsReach g l.tail R → has X l.head ≡ true → has X l.tail ≡ false → StepsBack g l X true (join X R)
@@ -130,12 +116,6 @@ module _ {g : GraphValue} {arcs : List Line} {skip k : ℕ} {X Y : List Bool} wh
     more = let a = p.kept in let b = s.more in omega arith;
     done = tt;
   }
-
-pub passed-none : (g : GraphValue) (arcs : List Line) (skip : ℕ) (X : List Bool) → HasPassed g arcs skip 0 X false X
-passed-none g arcs skip X = record { long = refl; spreading = λ y s. s; kept = omega arith; more = tt; done = λ j l below. absurd (omega arith) }
-
-pub least-spread : {g : GraphValue} {arcs : List Line} {skip y : ℕ} {R : List Bool} → IsSpreading g arcs skip y R → GoesBack (length arcs) arcs skip R → IsLeastSpread g arcs skip y R
-least-spread s back = record { spread = record { closed = s.closed; back = back }; spreading = s }
 
 -- one test that passes, at one place
 module _ {X : Type 0} (p : X → Bool) where
@@ -191,10 +171,6 @@ module _ {g : GraphValue} {B : List ℕ} (f : IsFeasible g B) where
   }
 
 -- what is common for one place more
-both_in : (a b : Bool) → (a && b) ≡ true → (a ≡ true) × (b ≡ true)
-both_in true b h = (refl, h)
-both_in false b h = absurd cc
-
 one_out : (a b : Bool) → (a && b) ≡ false → a ≡ true → b ≡ false
 one_out a b h k = grind arith
 
@@ -204,7 +180,7 @@ common-more {g} {arcs} {k} {y} K R c s =
     record {
       long = length-zip2 ◌&&◌ K R alike ∙ c.long;
       inside = λ x h skip l W w in_y.
-          let two = both_in (has K x) (has R x) (sym (has-meet K R x alike) ∙ h) in
+          let two = and_parts (has K x) (has R x) (sym (has-meet K R x alike) ∙ h) in
           elim (cases_eq skip k) [
             | inl e ↦ s.spreading.within W (rw e at w) in_y x two.1
             | inr ne ↦ c.inside x two.0 skip (omega arith) W w in_y
@@ -214,10 +190,3 @@ common-more {g} {arcs} {k} {y} K R c s =
         | inr out ↦ c.outside x x_in out
       ];
     }
-
-pub common-none : (g : GraphValue) (arcs : List Line) (y : ℕ) (K : List Bool) → length K ≡ length g.names → ((v : ℕ) → v < length g.names → has K v ≡ true) → IsCommon g arcs 0 y K
-common-none g arcs y K long whole = record {
-  long = long;
-  inside = λ x h skip l. absurd (omega arith);
-  outside = λ x x_in out. absurd (let is = whole x x_in in cc);
-}

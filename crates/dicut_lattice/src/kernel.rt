@@ -33,11 +33,7 @@ impl<'a> Model for Kernels<'a> {
 }
 
 impl<'a> Kernels<'a> {
-    pub fn new(
-        alloc: Global,
-        graph: &'a Graph,
-        join: &'a Numbers,
-    ) -> Result<Kernels<'a>, NoMemory>
+    pub fn new(alloc: Global, graph: &'a Graph, join: &'a Numbers) -> Result<Kernels<'a>, NoMemory>
         requires { IsFeasible graph.now join.now }
         ensures { IfOk result (λ kernels. kernels ≡ record { graph = graph.now; join = join.now }) }
     {

@@ -1,4 +1,4 @@
-use Rattle.std.proofs.Common.{◌∙◌, get_or}
+use Rattle.std.proofs.Common.{get_or}
 use Rattle.std.proofs.lemmas.Option.{slice_get-get_or}
 use Rattle.graph_core.specs.Graph.{no_line}
 use Rattle.dicut_lattice.proofs.Spreading.{passed-skip, passed-stay, passed-step}
@@ -13,7 +13,7 @@ loop-place-preserved c =
     elim c.if-place-skip.branch [
       | then-place-skip+then-go_back w ↦ rw (w.into-is, w.grew-is) (passed-step line before at w.if-place-skip.true (rw w.if-go_back.true at w.go_back.ensures))
       | else-place-skip w ↦ elim w.else-place-skip.branch [
-          | else-place-skip-via-then-place-skip+else-go_back w' ↦ rw (w.into-is, w'.into-is, w.grew-is) (passed-stay line before at (rw w'.if-go_back.false at w'.go_back.ensures))
-          | else-place-skip-via-else-place-skip w' ↦ rw (w.into-is, w'.into-is, w.grew-is) (passed-skip before w'.if-place-skip.false)
-        ]
+        | else-place-skip-via-then-place-skip+else-go_back w' ↦ rw (w.into-is, w'.into-is, w.grew-is) (passed-stay line before at (rw w'.if-go_back.false at w'.go_back.ensures))
+        | else-place-skip-via-else-place-skip w' ↦ rw (w.into-is, w'.into-is, w.grew-is) (passed-skip before w'.if-place-skip.false)
+      ]
     ]

@@ -1,4 +1,3 @@
-use Rattle.std.proofs.Common.{length}
 use Rattle.dicut_lattice.specs.Reach.{AreOwn}
 use Rattle.dicut_lattice.proofs.reach.own_rows.Given as goal
 

@@ -1,5 +1,5 @@
-use Rattle.std.proofs.Common.{◌≡◌, ◌∙◌, sym, ap, subst, length, true, not, false, arith, replicate}
-use Rattle.std.proofs.lemmas.List.{length-replicate, length-map}
+use Rattle.std.proofs.Common.{◌≡◌, ◌∙◌, ap, length, not, false, arith, replicate}
+use Rattle.std.proofs.lemmas.List.{length-replicate}
 use Rattle.graph_core.specs.Picked.{picked}
 use Rattle.graph_core.specs.Side.{has, complement}
 use Rattle.graph_core.proofs.SideLaws.{has-complement, has-none}
