@@ -2,7 +2,7 @@
 use Rattle.std.specs.Prelude.{ℕ, zero, suc, ◌≡◌, ◌≢◌, ◌+◌, ◌<◌, ◌≤◌, Bool, true, false, ◌&&◌, ◌||◌, List, [], ◌∷◌, length, replicate, slice_set, slice_get, Some, count_by, refl}
 use Rattle.std.proofs.Common.{ap, sym, ◌∙◌, inl, inr, arith, subst}
 use Rattle.std.specs.Bool.{OnFalse}
-use Rattle.std.proofs.lemmas.Bool.{cases_eq, cases_Bool, and_parts, or_cases, or_left, or_right}
+use Rattle.std.proofs.lemmas.Bool.{cases_eq, cases_Bool, both_ways, and_from, and_parts, or_cases, or_left, or_right}
 use Rattle.std.proofs.lemmas.List.{length-set, length-replicate, get_or-set_other}
 use Rattle.std.proofs.lemmas.Simd.{length-zip2}
 use Rattle.std.proofs.lemmas.Option.{slice_get_within}
@@ -153,7 +153,7 @@ module _ {g : GraphValue} {B : List ℕ} (f : IsFeasible g B) where
 
   spread-separates : (y x skip : ℕ) (R : List Bool) → x < length g.names → SpreadsBetween g arcs y x skip R → AreSeparated g B y x
   spread-separates y x skip R x_in s =
-      let closed : IsClosed g R = record { proper = is_proper R y x s.long s.holds x_in s.misses; closed = s.spread.closed } in
+      let closed : IsClosed g R = record { proper = is_proper R y x s.spread.long s.holds x_in s.misses; closed = s.spread.closed } in
       let most : joins g B R ≤ 1 = count-one (enters R) arcs skip (λ j l e ne. never_out (has R l.head) (has R l.tail) (s.spread.back j l (slice_get_within arcs j l e) e ne)) in
       let least : 1 ≤ joins g B R = f.covers R closed in
       (R, record { tight = record { closed = closed; once = omega arith }; holds = s.holds; misses = s.misses })
@@ -161,13 +161,13 @@ module _ {g : GraphValue} {B : List ℕ} (f : IsFeasible g B) where
   tight-spread : (T : List Bool) → IsTight g B T → (skip : ℕ) × (skip < length arcs) × IsSpread g arcs skip T
   tight-spread T tight =
       let (skip, l, others) = one-place (enters T) arcs tight.once in
-      (skip, l, record { closed = tight.closed.closed; back = λ j l _ e ne in_h. not_out (has T l.head) (has T l.tail) (others j l e ne) in_h })
+      (skip, l, record { long = tight.closed.proper.long; closed = tight.closed.closed; back = λ j l _ e ne in_h. not_out (has T l.head) (has T l.tail) (others j l e ne) in_h })
 
   pub common-kernel : (y : ℕ) (K : List Bool) → IsCommon g arcs (length arcs) y K → IsKernel g B y K
   common-kernel y K c = record {
     long = c.long;
     inside = λ x in_k T tight in_y. let (skip, l, s) = tight-spread T tight in c.inside x in_k skip l T s in_y;
-    outside = λ x x_in out. let (skip, R, s) = c.outside x x_in out in spread-separates y x skip R x_in s;
+    outside = λ x x_in out. let (skip, l, R, s) = c.outside x x_in out in spread-separates y x skip R x_in s;
   }
 
 -- what is common for one place more
@@ -186,7 +186,36 @@ common-more {g} {arcs} {k} {y} K R c s =
             | inr ne ↦ c.inside x two.0 skip (omega arith) W w in_y
           ];
       outside = λ x x_in h. elim (cases_Bool (has K x)) [
-        | inl in_k ↦ (k, R, record { long = s.spreading.long; spread = s.spread; holds = s.spreading.holds; misses = one_out (has K x) (has R x) (sym (has-meet K R x alike) ∙ h) in_k })
-        | inr out ↦ c.outside x x_in out
+        | inl in_k ↦ (k, omega arith, R, record { spread = s.spread; holds = s.spreading.holds; misses = one_out (has K x) (has R x) (sym (has-meet K R x alike) ∙ h) in_k })
+        | inr out ↦ let (skip, l, W, between) = c.outside x x_in out in (skip, omega arith, W, between)
       ];
     }
+
+-- two sets that are spread have a set in common that is spread as the second is, if that misses the head that the first leaves out
+spread-meets : {g : GraphValue} {arcs : List Line} {k skip : ℕ} (W R : List Bool) (l : Line) → slice_get arcs k ≡ Some l → has R l.head ≡ false → IsSpread g arcs k W → IsSpread g arcs skip R → IsSpread g arcs skip (meet W R)
+spread-meets {g} {arcs} {k} {skip} W R l at out w r =
+    let alike : length W ≡ length R = w.long ∙ sym r.long in
+    record {
+      long = length-zip2 ◌&&◌ W R alike ∙ w.long;
+      closed = (let law = leaving_meets g.lines W R w.long r.long in let a = w.closed in let b = r.closed in omega arith);
+      back = λ j m below at_m ne in_h.
+          let two = and_parts (has W m.head) (has R m.head) (sym (has-meet W R m.head alike) ∙ in_h) in
+          let other : j ≢ k = (λ e. let same : m ≡ l = (let here = subst (λ i. slice_get arcs i ≡ Some m) e at_m in cc) in both_ways (has R l.head) out (subst (λ (x : Line). has R x.head ≡ true) same two.1)) in
+          has-meet W R m.tail alike ∙ and_from (has W m.tail) (has R m.tail) (w.back j m below at_m other two.0) (r.back j m below at_m ne two.1);
+    }
+
+-- an arc whose head is out takes no more out
+pub common-skip : {g : GraphValue} {arcs : List Line} {k y : ℕ} (K : List Bool) (l : Line) → slice_get arcs k ≡ Some l → l.head < length g.names → has K l.head ≡ false → IsCommon g arcs k y K → IsCommon g arcs (k + 1) y K
+common-skip {g} {arcs} {k} {y} K l at head_in out c = record {
+  long = c.long;
+  inside = λ x h skip less W w in_y. elim (cases_eq skip k) [
+    | inr ne ↦ c.inside x h skip (omega arith) W w in_y
+    | inl e ↦
+        let (other, before, R, between) = c.outside l.head head_in out in
+        let alike : length W ≡ length R = w.long ∙ sym between.spread.long in
+        let both = spread-meets W R l at between.misses (subst (λ i. IsSpread g arcs i W) e w) between.spread in
+        let in_both = has-meet W R y alike ∙ and_from (has W y) (has R y) in_y between.holds in
+        (and_parts (has W x) (has R x) (sym (has-meet W R x alike) ∙ c.inside x h other before (meet W R) both in_both)).0
+  ];
+  outside = λ x x_in missed. let (skip, before, R, between) = c.outside x x_in missed in (skip, omega arith, R, between);
+}

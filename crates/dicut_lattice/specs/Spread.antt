@@ -14,6 +14,7 @@ GoesBack k arcs skip W = (j : ℕ) (l : Line) → j < k → slice_get arcs j ≡
 
 -- no arc of the graph leaves it, and of the listed arcs none but that at one place enters it
 pub record IsSpread (g : GraphValue) (arcs : List Line) (skip : ℕ) (W : List Bool) : Type 0 where
+  pub long : length W ≡ length g.names
   pub closed : leaving W g.lines ≡ 0
   pub back : GoesBack (length arcs) arcs skip W
 
@@ -49,7 +50,6 @@ pub record IsLeastSpread (g : GraphValue) (arcs : List Line) (skip y : ℕ) (R :
 
 -- a set that is spread holds y and misses x
 pub record SpreadsBetween (g : GraphValue) (arcs : List Line) (y x skip : ℕ) (R : List Bool) : Type 0 where
-  pub long : length R ≡ length g.names
   pub spread : IsSpread g arcs skip R
   pub holds : has R y ≡ true
   pub misses : has R x ≡ false
@@ -58,7 +58,7 @@ pub record SpreadsBetween (g : GraphValue) (arcs : List Line) (y x skip : ℕ) (
 pub record IsCommon (g : GraphValue) (arcs : List Line) (k y : ℕ) (K : List Bool) : Type 0 where
   pub long : length K ≡ length g.names
   pub inside : (x : ℕ) → has K x ≡ true → (skip : ℕ) → skip < k → (W : List Bool) → IsSpread g arcs skip W → has W y ≡ true → has W x ≡ true
-  pub outside : (x : ℕ) → x < length g.names → has K x ≡ false → (skip : ℕ) × (R : List Bool) × SpreadsBetween g arcs y x skip R
+  pub outside : (x : ℕ) → x < length g.names → has K x ≡ false → (skip : ℕ) × (skip < k) × (R : List Bool) × SpreadsBetween g arcs y x skip R
 
 -- what is kept for the questions about kernels
 pub record KeepsArcs (g : GraphValue) (join : List ℕ) (arcs : List Line) (reach : GraphValue) (whole work : List Bool) : Type 0 where

@@ -66,7 +66,8 @@ impl<'a> Kernels<'a> {
     }
 }
 
-/// Takes from all nodes those that aren't in each of the smallest sets with `y` that are spread.
+/// Takes from all nodes those that aren't in each of the smallest sets with `y` that are spread. Where the head of an
+/// arc was taken out before, the set for that arc has all that is left.
 fn meet_spreads(reach: &Reach, arcs: &[Line], y: u32, work: &mut Side, into: &mut Side)
     requires fit { All (Fits (length reach.now.names)) arcs.now }
     requires y_in { y < length reach.now.names }
@@ -76,8 +77,10 @@ fn meet_spreads(reach: &Reach, arcs: &[Line], y: u32, work: &mut Side, into: &mu
     ensures common { IsCommon reach.now arcs.now (length arcs.now) y into.new }
 {
     for skip in 0..arcs.len() {
-        spread(reach, arcs, skip, y, work);
-        into.meet(work);
+        if into.has(arcs[skip].head) {
+            spread(reach, arcs, skip, y, work);
+            into.meet(work);
+        }
     }
 }
 
