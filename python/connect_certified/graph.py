@@ -128,11 +128,12 @@ def _within(number: Any, most: int) -> bool:
     return isinstance(number, int) and not isinstance(number, bool) and 0 <= number <= most
 
 
-def _hashed(node: Any) -> Node:
+def _hashed(value: Any) -> Node:
+    node: Node = value
     try:
         hash(node)
     except TypeError as error:
-        raise Unwritable(f"{node!r} can't be a node: it isn't hashable", node) from error
+        raise Unwritable(f"{value!r} can't be a node: it isn't hashable", value) from error
     return node
 
 
