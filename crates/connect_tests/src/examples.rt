@@ -7,4 +7,3 @@ pub const ARCS: &[u8] =
 
 /// Two arcs into one node.
 pub const INTO_ONE: &[u8] = b"graph directed\nnode x\nnode y\nnode z\narc x y\narc z y\nend\n";
-

@@ -27,13 +27,16 @@ fn ring_with_tail(alloc: Global, kind: Kind, last: u32) -> Result<Vec<u8>, Alloc
 type Row<'a> = (&'a str, Kind, u32, &'a [u8]);
 
 // Node n127 hangs on the ring of the others by one line, but in the orientation.
-const ROWS: [Row<'static>; 9] = [
+const EDGES: [Row<'static>; 6] = [
     ("flow n0 n1", Kind::Undirected, 126, b"value 2\npath "),
     ("cuttree", Kind::Undirected, 126, b"tree "),
     ("trees", Kind::Undirected, 126, b"value 1\npart "),
     ("forests", Kind::Undirected, 126, b"value 2\npart "),
     ("augment 2", Kind::Undirected, 126, b"value 1\nedge "),
     ("orient 1", Kind::Undirected, 127, b"arc "),
+];
+
+const ARCS: [Row<'static>; 3] = [
     ("arborescences n0", Kind::Directed, 126, b"value 1\npart "),
     ("augment-arcs 1", Kind::Directed, 126, b"value 1\narc n127 "),
     ("dijoin", Kind::Directed, 126, b"value 1\njoin 127\n"),
@@ -48,8 +51,13 @@ fn are_answered(rt: &impl Abort, alloc: Global, rows: &[Row<'_>]) -> Result<(), 
 }
 
 #[test]
-fn memory_is_enough_for_the_most_nodes(rt: HostRuntime) -> Result<(), Fail> {
-    are_answered(&rt, rt.alloc(), &ROWS)
+fn memory_is_enough_for_the_most_nodes_with_edges(rt: HostRuntime) -> Result<(), Fail> {
+    are_answered(&rt, rt.alloc(), &EDGES)
+}
+
+#[test]
+fn memory_is_enough_for_the_most_nodes_with_arcs(rt: HostRuntime) -> Result<(), Fail> {
+    are_answered(&rt, rt.alloc(), &ARCS)
 }
 
 // The graph is made of the number, and the value was found by another program.
