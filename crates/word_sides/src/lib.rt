@@ -1,7 +1,6 @@
 //! Lists of truth values, 64 in a word.
 #![tactic(auto)]
 
-mod held;
 mod lanes;
 mod words;
 
