@@ -8,8 +8,6 @@ mod checks;
 #[cfg(test)]
 mod examples;
 #[cfg(test)]
-mod most_nodes;
-#[cfg(test)]
 mod run;
 #[cfg(test)]
 mod solved;
