@@ -8,8 +8,8 @@ orientations and dijoins. Without a command all tables are printed.
 
 Each time is the least of RUNS (5), in milliseconds of a processor, from the start of the process to its end: of the
 answer, of `check` on that answer, and of the yardstick, tools/yardstick.cpp, which is built where a C++ compiler is and
-whose values are compared with the program's, those of dijoins excepted. Growth is how often the time of an
-answer goes into that of the next size. Ends with 1 where a run has another answer than it has to have.
+whose values are compared with the program's. Growth is how often the time of an answer goes into that of the next size.
+MB is the most memory of the answer's process. Ends with 1 where a run has another answer than it has to have.
 """
 
 import random
@@ -157,6 +157,19 @@ def spent():
     return (used.ru_utime + used.ru_stime) * 1000
 
 
+def most_memory(words, data):
+    """The most memory that the process took, in MB: its last high-water mark that was read before it ended."""
+    last = 0
+    with tempfile.TemporaryFile() as text:
+        text.write(data)
+        text.seek(0)
+        child = subprocess.Popen(words, stdin=text, stdout=subprocess.DEVNULL)
+        while child.poll() is None:
+            status = Path(f"/proc/{child.pid}/status").read_text(encoding="ascii", errors="replace")
+            last = next((int(line.split()[1]) for line in status.split("\n") if line.startswith("VmHWM")), last)
+    return last * 1024 / 1e6
+
+
 def yardstick(room):
     """The plain program, or None."""
     compiler = shutil.which("g++") or shutil.which("clang++")
@@ -185,13 +198,13 @@ def want(words, got, wanted):
 
 
 def times(program, plain, runs, words, data):
-    """The value, and the times of the answer, its check and the yardstick, which knows no dijoins."""
+    """The value, and the times of the answer, its check and the yardstick."""
     text, status, own = timed([program, *words], data, runs)
     want(words, status, 1 if b"\nimpossible\n" in text else 0)
     said, accepted, check = timed([program, "check"], data + text, runs)
     want([*words, "and check"], (said, accepted), (b"accepted\n", 0))
     found, least = value_of(words[0], text), None
-    if plain and words[0] != "dijoin":
+    if plain:
         value, _, least = timed([plain, *words], data, runs)
         want([*words, "and the yardstick's value"], found, int(value))
     return found, (own, check, least)
@@ -217,12 +230,14 @@ def row(program, plain, runs, command, words_for, directed, make):
 
 def print_large(program, plain, runs):
     print("## Single graphs, most of them as large as may be\n")
-    print("| Words | Nodes | Lines | Value | Answer | `check` | Yardstick |\n|---|---|---|---|---|---|---|")
+    print("| Words | Nodes | Lines | Value | Answer | `check` | Yardstick | MB |\n|---|---|---|---|---|---|---|---|")
     for asked, n, lines, pairs, directed in LARGE:
-        value, found = times(program, plain, runs, asked.split(), text_of(n, pairs, directed))
+        data = text_of(n, pairs, directed)
+        value, found = times(program, plain, runs, asked.split(), data)
         if asked.startswith("orient"):
             value = "done" if value else "impossible"
-        print("|", " | ".join([f"`{asked}`", str(n), lines, str(value), *shown(found)]), "|", flush=True)
+        memory = most_memory([program, *asked.split()], data)
+        print("|", " | ".join([f"`{asked}`", str(n), lines, str(value), *shown((*found, memory))]), "|", flush=True)
     print()
 
 

@@ -185,10 +185,12 @@ def trial(kind, nodes, number):
 
 
 def plain_text(graph):
-    """The text of a graph without costs and numbers."""
+    """The text of a graph without the numbers of its nodes."""
     word = b"arc" if graph.directed else b"edge"
     lines = [b"graph directed" if graph.directed else b"graph undirected", *(b"node " + name for name in graph.names)]
-    lines += [b"%s %s %s" % (word, graph.names[t], graph.names[h]) + (b" fixed" if fixed else b"") for t, h, fixed, _ in graph.lines]
+    for tail, head, fixed, cost in graph.lines:
+        more = b" fixed" if fixed else b" cost %d" % cost if cost != 1 else b""
+        lines.append(b"%s %s %s%s" % (word, graph.names[tail], graph.names[head], more))
     return b"".join(line + b"\n" for line in [*lines, b"end"])
 
 

@@ -7,9 +7,9 @@ The bugs of a crate stand in tools/plants/NAME.txt, with blank lines between: a 
 the lines 'file:', 'old:' and 'new:' of a must-fail edit. They are tried in a copy of the repository. The proof of a
 function sees of the others only their contracts, so that bugs in different functions are tried by one check; with
 --alone each is tried by itself, as a must-fail edit. A bug that no proof refuses, or that is refused only since a proof
-names what it took away, is tried by itself with the tests of library_tests and of connect_tests; a test that runs out of
-time catches nothing. --only takes the bugs whose title has the words (a regular expression). Ends with 0 where each bug
-is refused by a proof or caught by a test.
+names what it took away, is tried by itself with the tests of library_tests, solver_tests and connect_tests; a test that
+runs out of time catches nothing. --only takes the bugs whose title has the words (a regular expression). Ends with 0
+where each bug is refused by a proof or caught by a test.
 """
 
 import os
@@ -22,7 +22,7 @@ from pathlib import Path
 
 ROOT = Path(__file__).resolve().parent.parent
 PLANTS = ROOT / "tools/plants"
-SUITES = ["library_tests", "connect_tests"]
+SUITES = ["library_tests", "solver_tests", "connect_tests"]
 NAMES_ONLY = re.compile(r"has no `|has no field|is not in scope|was not admitted|\(nearest: ")
 
 

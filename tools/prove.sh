@@ -5,7 +5,8 @@ usage="usage: prove.sh NAME           proves what the program crates/NAME stands
        prove.sh --list NAME    prints these crates, each with all that it stands on, in the order in which they begin
 
 As many crates are proved at a time as there are processors and 3 GB of free memory for each, or as CONNECT_LANES says.
-A crate begins when those that it stands on are proved, first the one with the longest way to the program. rt keeps other
+A crate begins when those that it stands on are proved, first the one with the longest way to the program: its proof goes
+before the others, with as many jobs as crates are proved at a time, and the others fill what it leaves. rt keeps other
 runs out of a crate and of all below it, so that each crate is proved in a tree of its own, of links to what it needs. Let
 no other rt work in these crates meanwhile."
 
@@ -86,17 +87,19 @@ end_tree() {
     rm -rf "${work:?}/$1"
 }
 
-# Starts the proof of a crate with some jobs. Its end is told on 8.
+# Starts the proof of a crate. Its end is told on 8. One proof at a time goes before the others, whose memory two jobs each
+# keep small.
 start() {
-    jobs=$1
-    shift
-    running="$running $1:$jobs"
+    jobs=2 later=10
+    if [ -z "$front" ]; then front=$1 jobs=$lanes later=0; fi
+    [ "$jobs" -le "$lanes" ] || jobs=$lanes
+    running="$running $1"
     make_tree "$@" || { echo "$1 70" >&8; return; }
     (
         proof=
         trap 'kill "$proof" && wait "$proof"; exit' TERM
         cd "$work/$1/crates/$1" || exit
-        rt lib --jobs "$jobs" >"$work/$1.log" 2>&1 </dev/null 8>&- &
+        nice -n "$later" rt lib --jobs "$jobs" >"$work/$1.log" 2>&1 </dev/null 8>&- &
         proof=$!
         wait "$proof"
         status=$?
@@ -108,10 +111,10 @@ start() {
 # Ends the proofs that run, and puts what they kept back.
 stop() {
     for each in $running; do
-        kill "$(cat "$work/${each%:*}.pid" 2>/dev/null)" 2>/dev/null
+        kill "$(cat "$work/$each.pid" 2>/dev/null)" 2>/dev/null
     done
     wait
-    for each in $running; do end_tree "${each%:*}"; done
+    for each in $running; do end_tree "$each"; done
     rm -rf "${work:?}"
 }
 
@@ -131,16 +134,13 @@ ready() {
     done <"$work/list"
 }
 
-# Starts what is ready where a lane is free. The first gets the lanes that are left over.
+# Starts what is ready where a lane is free.
 start_ready() {
     ready >"$work/ready"
-    waiting=$(wc -l <"$work/ready")
     while [ "$free_lanes" -gt 0 ] && read -r crate below; do
-        jobs=$((free_lanes - waiting + 1))
-        [ "$jobs" -ge 1 ] || jobs=1
-        free_lanes=$((free_lanes - jobs)) waiting=$((waiting - 1)) started="$started $crate"
+        free_lanes=$((free_lanes - 1)) started="$started $crate"
         # shellcheck disable=SC2086
-        start "$jobs" "$crate" $below
+        start "$crate" $below
     done <"$work/ready"
 }
 
@@ -148,9 +148,10 @@ start_ready() {
 take_in() {
     rest=
     for each in $running; do
-        if [ "${each%:*}" = "$1" ]; then free_lanes=$((free_lanes + ${each#*:})); else rest="$rest $each"; fi
+        [ "$each" = "$1" ] || rest="$rest $each"
     done
-    running=$rest
+    running=$rest free_lanes=$((free_lanes + 1))
+    [ "$front" != "$1" ] || front=
     if [ "$2" -ne 0 ]; then
         say "$1 was not proved:"
         tail -n 20 "$work/$1.log" >&2
@@ -163,7 +164,8 @@ take_in() {
 
 prove_all() {
     crates_below "$name" | grep -v "^$name " >"$work/list"
-    total=$(($(wc -l <"$work/list") + 1)) count=0 started='' proved='' running='' free_lanes=$(lanes)
+    total=$(($(wc -l <"$work/list") + 1)) count=0 started='' proved='' running='' front='' lanes=$(lanes)
+    free_lanes=$lanes
     mkfifo "$work/ends" && exec 8<>"$work/ends" && rm "$work/ends" || return 1
     while [ "$count" -lt $((total - 1)) ]; do
         start_ready

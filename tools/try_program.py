@@ -76,8 +76,8 @@ def verdict(data):
 
 
 def yardstick_value(graph, words):
-    """The value by the plain program, which knows no dijoins, or None; for a cut tree it is the sum of the weights."""
-    if not yardstick or words[0] == "dijoin":
+    """The value by the plain program, or None where there is no compiler; for a cut tree it is the sum of the weights."""
+    if not yardstick:
         return None
     done = subprocess.run([yardstick, *words], input=plain.plain_text(graph), capture_output=True, timeout=120, check=True)
     return int(done.stdout)

@@ -1,8 +1,9 @@
 // A plain program to compare times and values with: it reads a graph text and prints the value of a best answer.
-// usage: yardstick flow S T | cuttree | arborescences R | trees | forests | augment K | augment-arcs K | orient K, with a
-// graph text on standard input. For cuttree the value is the sum of the weights, which is the same for every cut tree, and
-// for orient it is 1 where there is an orientation and 0 where there is none.
+// usage: yardstick flow S T | cuttree | arborescences R | trees | forests | augment K | augment-arcs K | orient K | dijoin,
+// with a graph text on standard input. For cuttree the value is the sum of the weights, which is the same for every cut tree;
+// for orient it is 1 where there is an orientation and 0 where there is none; for dijoin 0 may also mean that there is none.
 #include <algorithm>
+#include <bitset>
 #include <cstdio>
 #include <iostream>
 #include <map>
@@ -12,7 +13,10 @@
 #include <vector>
 using namespace std;
 
-struct Line { int tail, head; };
+struct Line {
+    int tail, head, cost = 1;
+    bool fixed = false;
+};
 
 struct Graph {
     bool directed = false;
@@ -30,7 +34,13 @@ Graph read_graph() {
         words >> word >> a >> b;
         if (word == "graph") graph.directed = a == "directed";
         else if (word == "node") graph.number.emplace(a, graph.nodes());
-        else if (word == "edge" || word == "arc") graph.lines.push_back({graph.number[a], graph.number[b]});
+        else if (word == "edge" || word == "arc") {
+            Line line{graph.number[a], graph.number[b]};
+            while (words >> word)
+                if (word == "cost") words >> line.cost;
+                else if (word == "fixed") line.fixed = true;
+            graph.lines.push_back(line);
+        }
         else if (word == "end") break;
     }
     return graph;
@@ -44,7 +54,7 @@ struct Network {
     vector<char> off;
 
     Network(const Graph& graph) : from(graph.nodes()) {
-        for (auto [tail, head] : graph.lines) add(tail, head, 1, graph.directed ? 0 : 1);
+        for (const Line& line : graph.lines) add(line.tail, line.head, 1, graph.directed ? 0 : 1);
     }
 
     void add(int tail, int head, int room_there, int room_back) {
@@ -175,7 +185,7 @@ int arborescences(const Graph& graph, int root) {
         in[root] = true;
         for (int count = 1; count < graph.nodes();)
             for (size_t j = 0; j < graph.lines.size(); j++) {
-                auto [u, v] = graph.lines[j];
+                int u = graph.lines[j].tail, v = graph.lines[j].head;
                 if (net.off[j] || !in[u] || in[v]) continue;
                 net.off[j] = true;
                 if (net.flow(root, v, left) < left) net.off[j] = false;
@@ -226,7 +236,7 @@ struct Forests {
 
     // The lines of forest i between the ends of line e; false where it has no such path.
     bool path(int i, int e, vector<int>& found) const {
-        auto [u, v] = graph.lines[e];
+        int u = graph.lines[e].tail, v = graph.lines[e].head;
         while (u != v) {
             if (depth[i][u] < depth[i][v]) swap(u, v);
             if (before[i][u] < 0) return false;
@@ -282,6 +292,116 @@ int forests(const Graph& graph) {
     return k;
 }
 
+// A least dijoin by shortest paths (Frank; Lucchesi and Younger). A side is closed where no arc leaves it, and tight where
+// it is closed and the dijoin enters it once. A path goes along an arc to put it in, back along one to take it out, and from x
+// to y where each tight side with y has x. An arc of the dijoin costs nothing until its turn comes: then it stays where no path
+// from its tail to its head is cheaper than it, and else such a path with the fewest steps takes its place.
+struct Dijoin {
+    using Row = bitset<128>;
+    const Graph& graph;
+    int n;
+    vector<char> taken, paid;
+    vector<Row> kernel; // what all tight sides with a node have in common
+    vector<int> potential, before, via, done;
+    vector<pair<int, int>> way; // how far each node is, and by how many steps
+
+    Dijoin(const Graph& g) : graph(g), n(g.nodes()), taken(g.lines.size()), paid(g.lines.size()), potential(n) {}
+
+    // What is reached along arcs, and back along those of the dijoin but one.
+    vector<Row> reach(int but) const {
+        vector<Row> rows(n);
+        for (int v = 0; v < n; v++) rows[v][v] = true;
+        for (int j = 0; j < (int)graph.lines.size(); j++) {
+            rows[graph.lines[j].tail][graph.lines[j].head] = true;
+            if (taken[j] && j != but) rows[graph.lines[j].head][graph.lines[j].tail] = true;
+        }
+        for (int v = 0; v < n; v++)
+            for (int u = 0; u < n; u++)
+                if (rows[u][v]) rows[u] |= rows[v];
+        return rows;
+    }
+
+    // Any dijoin, of arcs that are cheap where they come in; false where fixed arcs alone enter a closed side.
+    bool start() {
+        for (int v = 0; v < n; v++) {
+            Row missed;
+            while ((int)(missed = reach(-1)[v]).count() < n) {
+                int least = -1;
+                for (int j = 0; j < (int)graph.lines.size(); j++) {
+                    const Line& line = graph.lines[j];
+                    if (line.fixed || missed[line.tail] || !missed[line.head]) continue;
+                    if (least < 0 || line.cost < graph.lines[least].cost) least = j;
+                }
+                if (least < 0) return false;
+                taken[least] = true;
+            }
+        }
+        return true;
+    }
+
+    void renew() {
+        kernel.assign(n, Row().set());
+        for (int j = 0; j < (int)taken.size(); j++) {
+            if (!taken[j]) continue;
+            vector<Row> rows = reach(j);
+            for (int v = 0; v < n; v++) kernel[v] &= rows[v];
+        }
+    }
+
+    void step(int u, int v, int length, int line) {
+        pair<int, int> there{way[u].first + length + potential[u] - potential[v], way[u].second + 1};
+        if (there < way[v]) way[v] = there, before[v] = u, via[v] = line;
+    }
+
+    // Shortest paths from the tail of the arc, which isn't taken out, with the fewest steps (Dijkstra).
+    void search(int arc) {
+        way.assign(n, {1 << 28, 0}), before.assign(n, -1), via.assign(n, -1), done.assign(n, 0);
+        way[graph.lines[arc].tail] = {0, 0};
+        for (int count = 0; count < n; count++) {
+            int u = -1;
+            for (int v = 0; v < n; v++)
+                if (!done[v] && (u < 0 || way[v] < way[u])) u = v;
+            if (way[u].first == 1 << 28) return;
+            done[u] = true;
+            for (int j = 0; j < (int)taken.size(); j++) {
+                const Line& line = graph.lines[j];
+                if (j == arc) continue;
+                if (!taken[j] && !line.fixed && line.tail == u) step(u, line.head, line.cost, j);
+                if (taken[j] && line.head == u) step(u, line.tail, paid[j] ? -line.cost : 0, j);
+            }
+            for (int v = 0; v < n; v++)
+                if (kernel[v][u]) step(u, v, 0, -1);
+        }
+    }
+
+    // The turn of an arc of the dijoin.
+    void pay(int arc) {
+        auto [tail, head, cost, fixed] = graph.lines[arc];
+        search(arc);
+        paid[arc] = true;
+        int more = max(0, cost - (potential[head] - potential[tail])), far = way[head].first;
+        for (int v = 0; v < n; v++) potential[v] += min({way[v].first, more, far});
+        if (far >= more) return;
+        taken[arc] = false;
+        for (int v = head; v != tail; v = before[v])
+            if (via[v] >= 0) taken[via[v]] ^= true, paid[via[v]] = true;
+        renew();
+    }
+
+    int least() {
+        int sum = 0;
+        if (!start()) return 0;
+        renew();
+        for (bool again = true; again;) {
+            again = false;
+            for (int j = 0; j < (int)taken.size(); j++)
+                if (taken[j] && !paid[j]) pay(j), again = true;
+        }
+        for (int j = 0; j < (int)taken.size(); j++) sum += taken[j] ? graph.lines[j].cost : 0;
+        return sum;
+    }
+};
+
 int main(int count, char** words) {
     string command = count > 1 ? words[1] : "";
     Graph graph = read_graph();
@@ -292,6 +412,7 @@ int main(int count, char** words) {
         : command == "forests" ? forests(graph)
         : command == "augment" ? augment(graph, stoi(words[2]))
         : command == "augment-arcs" ? augment_arcs(graph, stoi(words[2]))
-        : orient(graph, stoi(words[2]));
+        : command == "orient" ? orient(graph, stoi(words[2]))
+        : Dijoin(graph).least();
     printf("%d\n", value);
 }

@@ -1,4 +1,4 @@
--- Counts with an even sum. This serves the proofs.
+-- Counts with an even sum. No public clause cites it.
 use Rattle.std.specs.Prelude.{ℕ, ◌≡◌, ◌≤◌, ◌+◌, ◌%◌, Bool, List, length, slice_index, sum}
 use Rattle.graph_core.specs.Side.{sum_over}
 

@@ -1,4 +1,4 @@
--- Pairs that join the classes of a partition in a row. This serves the proofs.
+-- Pairs that join the classes of a partition in a row. No public clause cites it.
 use Rattle.std.specs.Prelude.{ℕ, ◌≡◌, ◌+◌, ◌-◌, ◌<◌, Bool, true, List, length, slice_index_or}
 use Rattle.graph_core.specs.Side.{has}
 use Rattle.cut_fn.specs.Members.{member}

@@ -1,4 +1,4 @@
--- How many lines lead from a node to another, counted up to a limit. It serves the proofs.
+-- How many lines lead from a node to another, counted up to a limit. No public clause cites it.
 use Rattle.std.specs.Prelude.{ℕ, suc, ◌≡◌, ◌+◌, ◌/◌, ◌%◌, ◌<◌, ◌≤◌, ◌⊎◌, Bool, not, ◌&&◌, List, [], ◌∷◌, length, All}
 use Rattle.graph_core.specs.Side.{has, IsProper}
 use Rattle.graph_core.specs.Lines.{differ, degree, entering}

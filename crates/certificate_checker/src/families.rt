@@ -29,6 +29,10 @@ pub fn is_partition(classes: &Sides, count: u32) -> bool
     requires { AreSides count classes.now }
     ensures { IsTrue result ↔ IsPartition count classes.now }
 {
+    // (a text may have millions of them)
+    if classes.len() > count as usize {
+        return false;
+    }
     if !are_nonempty(classes) {
         return false;
     }
@@ -57,6 +61,9 @@ pub fn is_disjoint_family(sides: &Sides, count: u32) -> bool
     requires { AreSides count sides.now }
     ensures { IsTrue result ↔ IsDisjointFamily count sides.now }
 {
+    if sides.len() > count as usize {
+        return false;
+    }
     if !are_proper(sides) {
         return false;
     }

@@ -9,7 +9,7 @@ ghost use Rattle.certificate_text.specs.Words as words_of;
 use crate::decimals::number;
 use crate::keyword::kind_of;
 use crate::line::DualKind;
-use crate::words::{WordsLeft, after_word, is_done, next_word};
+use crate::words::{WordsLeft, is_done, next_word};
 use graph_core::{Graph, NoMemory, Numbers, Side};
 use std::alloc::Global;
 
@@ -17,8 +17,10 @@ use std::alloc::Global;
 pub fn is_one(words: WordsLeft<'_>) -> bool
     ensures { IsTrue result ↔ (words_left words.entry ≡ codes "1" ∷ []) }
 {
-    let (here, rest) = after_word(b"1", words);
-    here && is_done(rest)
+    let Some((word, rest)) = next_word(words) else {
+        return false;
+    };
+    word == b"1".as_slice() && is_done(rest)
 }
 
 /// The number that is the only word left.

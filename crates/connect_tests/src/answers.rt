@@ -1,8 +1,9 @@
-use crate::examples::{ONE_NODE, OUT_STAR, PATH, SQUARE, TRIANGLE};
+use crate::examples::ONE_NODE;
 use crate::run::{answer, graph_text, same};
 use std::alloc::Global;
 use std::process::Abort;
 use std::test::Fail;
+use test_graphs::{OUT_STAR, PATH, SQUARE, TRIANGLE};
 
 // Words, input, the whole text and the exit number.
 const WHOLE: [(&str, &[u8], &[u8], u8); 54] = [

@@ -1,8 +1,9 @@
-use crate::examples::{ARCS, EDGE, INTO_ONE, K4, OUT_STAR, PATH, SQUARE, TRIANGLE};
+use crate::examples::{ARCS, INTO_ONE};
 use crate::run::{answer, joined, same};
 use std::alloc::Global;
 use std::process::Abort;
 use std::test::Fail;
+use test_graphs::{EDGE, K4, OUT_STAR, PATH, SQUARE, TRIANGLE};
 
 // A graph, what follows it, the answer and the exit number.
 type Row<'a> = (&'a [u8], &'a [u8], &'a [u8], u8);

@@ -8,6 +8,8 @@ mod checks;
 #[cfg(test)]
 mod examples;
 #[cfg(test)]
+mod most_nodes;
+#[cfg(test)]
 mod run;
 #[cfg(test)]
 mod solved;

@@ -1,10 +1,9 @@
-use crate::examples::{
-    ARCS, BACKBONE, EDGE, INTO_ONE, K4, ONE_NODE, OUT_STAR, PATH, SQUARE, TRIANGLE,
-};
+use crate::examples::{ARCS, INTO_ONE, ONE_NODE};
 use crate::run::{answer, joined, same};
 use std::alloc::Global;
 use std::process::Abort;
 use std::test::Fail;
+use test_graphs::{BACKBONE, COMPLETE, EDGE, K4, OUT_STAR, PATH, SQUARE, TRIANGLE, TWO_ALONE};
 
 const PARALLEL: &[u8] = b"graph undirected\nnode a\nnode b\nedge a b\nedge a b\nedge a b\nend\n";
 
@@ -21,17 +20,11 @@ const THICK: &[u8] =
 const RING: &[u8] =
     b"graph undirected\nnode a\nnode b\nnode c\nnode d\nedge a b\nedge a b\nedge a b\nedge b c\nedge c d\nedge d a\nend\n";
 
-// Each ordered pair of three nodes.
-const COMPLETE: &[u8] =
-    b"graph directed\nnode a\nnode b\nnode c\narc a b\narc a c\narc b a\narc b c\narc c a\narc c b\nend\n";
-
 const UNREACHED: &[u8] = b"graph directed\nnode a\nnode b\nnode c\narc a b\narc c b\nend\n";
 
 const THREE_ALONE: &[u8] = b"graph undirected\nnode a\nnode b\nnode c\nend\n";
 
 const FOUR_ALONE: &[u8] = b"graph undirected\nnode a\nnode b\nnode c\nnode d\nend\n";
-
-const TWO_ALONE: &[u8] = b"graph directed\nnode a\nnode b\nend\n";
 
 /// The complete graph on five nodes.
 const K5: &[u8] =

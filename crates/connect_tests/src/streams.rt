@@ -1,9 +1,9 @@
-use crate::examples::{EDGE, OUT_STAR, PATH, TRIANGLE};
 use crate::run::{Sizes, run, same};
 use connect_run::Status;
 use std::alloc::Global;
 use std::process::Abort;
 use std::test::Fail;
+use test_graphs::{EDGE, OUT_STAR, PATH, TRIANGLE};
 
 // No edges join the two nodes.
 const INPUT: &[u8] = b"graph undirected\nnode a\nnode b\nend\n";

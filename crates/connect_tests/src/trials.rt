@@ -17,7 +17,7 @@ const SMALL: [(&str, &[u8]); 5] = [
     ("trial dijoin 2 5", b"value 1\n"),
 ];
 
-fn are_told(rt: &impl Abort, alloc: Global, rows: &[(&str, &[u8])]) -> Result<(), Fail> {
+pub fn are_told(rt: &impl Abort, alloc: Global, rows: &[(&str, &[u8])]) -> Result<(), Fail> {
     for (words, line) in rows {
         let (written, status) = answer(alloc, words, b"")?;
         same(rt, &(written.as_slice(), status), &(*line, 0), words);
@@ -55,7 +55,7 @@ fn is_solved(rt: &impl Abort, alloc: Global, row: &Forty<'_>) -> Result<(), Fail
 }
 
 /// Asserts that the certificate begins so behind its command's line, and is accepted.
-fn is_accepted(
+pub fn is_accepted(
     rt: &impl Abort,
     alloc: Global,
     words: &str,

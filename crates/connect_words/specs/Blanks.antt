@@ -1,4 +1,4 @@
--- What the reader goes by: the first word of a command, and what stands behind it.
+-- What the reader goes by: the first word of a command, and what stands behind it. No public clause cites it.
 use Rattle.std.specs.Prelude.{◌≡◌, ℕ, ◌^◌, ◌<◌, List, [], ◌∷◌, Option, Some, None, ⊤, codes, slice_get}
 use Rattle.std.specs.Fmt.{decimal}
 use Rattle.problem_defs.specs.Ask.{IsK}

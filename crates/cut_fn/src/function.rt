@@ -14,6 +14,7 @@ pub trait CutFn {
         ensures nodes { result ≡ nodes self.now }
         ensures few { result ≤ 8192 };
 
+    /// The value of a side.
     fn value(&self, side: &Side) -> u64
         requires { length side.now ≡ nodes self.now }
         ensures value { result ≡ cut self.now side.now }

@@ -1,4 +1,4 @@
--- Branches of a growing tree: by their places, turned about, and led to another node.
+-- Branches of a growing tree: by their places, turned about, and led to another node. No public clause cites it.
 use Rattle.std.specs.Prelude.{ℕ, ◌==◌, Bool, cond, ◌&&◌, List, [], slice_index_or}
 use Rattle.graph_core.specs.Side.{has, complement}
 use Rattle.cut_trees.specs.declared.branch.Branch.{Branch}

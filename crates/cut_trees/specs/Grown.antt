@@ -1,4 +1,4 @@
--- A tree of least cuts that has grown to the nodes below s.
+-- A tree of least cuts that has grown to the nodes below s. No public clause cites it.
 use Rattle.std.specs.Prelude.{ℕ, ◌≡◌, ◌≢◌, ◌+◌, ◌<◌, ◌≤◌, Bool, true, false, List, length}
 use Rattle.graph_core.specs.Side.{has}
 use Rattle.graph_core.specs.Lines.{differ, degree}

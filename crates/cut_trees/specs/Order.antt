@@ -1,4 +1,4 @@
--- The pairs of a tree in an order in which a search comes to them, each turned to lead away from where it began.
+-- The pairs of a tree in an order in which a search comes to them, each turned to lead away from where it began. No public clause cites it.
 use Rattle.std.specs.Prelude.{ℕ, ◌≡◌, ◌≢◌, ◌+◌, ◌<◌, ◌≤◌, ◌⊎◌, Bool, true, false, List, length, slice_index_or, All}
 use Rattle.graph_core.specs.Graph.{GraphValue}
 use Rattle.graph_core.specs.Side.{has, size}

@@ -1,4 +1,4 @@
--- A turn: the tree grows to its next node s, which t has represented.
+-- A turn: the tree grows to its next node s, which t has represented. No public clause cites it.
 use Rattle.std.specs.Prelude.{ℕ, ◌≡◌, ◌≢◌, ◌<◌, Bool, true, List, All}
 use Rattle.graph_core.specs.Side.{has}
 use Rattle.graph_core.specs.Graph.{Fits}

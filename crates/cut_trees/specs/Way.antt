@@ -1,4 +1,4 @@
--- The way in a tree from u to v, and its least pair.
+-- The way in a tree from u to v, and its least pair. No public clause cites it.
 use Rattle.std.specs.Prelude.{ℕ, ◌≡◌, ◌≢◌, ◌<◌, ◌≤◌, Bool, true, false, List, length}
 use Rattle.graph_core.specs.Side.{has}
 use Rattle.graph_core.specs.Lines.{differ}

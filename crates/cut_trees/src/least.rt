@@ -26,8 +26,7 @@ fn cut_between(graph: &Graph, pairs: &mut [Pair], u: u32, v: u32, side: &mut Sid
 
 /// The number of edges of a least cut between two nodes, and a side of it that holds `u`, read off a
 /// cut tree: the least pair on the tree's way from `u` to `v` has the number, and what the tree
-/// joins to `u` without this pair is the side (Gomory and Hu). It takes time of the square of the
-/// number of nodes at most.
+/// joins to `u` without this pair is the side (Gomory and Hu).
 pub fn least_cut(
     alloc: Global,
     graph: &Graph,

@@ -1,5 +1,5 @@
 -- Sets that spread until no arc leaves them and one arc of a dijoin at most enters them, and what these have in common.
-use Rattle.std.specs.Prelude.{ℕ, zero, suc, ◌≡◌, ◌≢◌, ◌+◌, ◌<◌, ◌≤◌, Bool, true, false, ◌&&◌, ◌||◌, List, [], ◌∷◌, length, replicate, slice_set, slice_get, Some, count_by, refl}
+use Rattle.std.specs.Prelude.{ℕ, zero, suc, ◌≡◌, ◌≢◌, ◌+◌, ◌-◌, ◌<◌, ◌≤◌, ◌⊎◌, Bool, true, false, ◌&&◌, ◌||◌, List, [], ◌∷◌, length, replicate, slice_set, slice_get, Some, count_by, refl}
 use Rattle.std.proofs.Common.{ap, sym, ◌∙◌, inl, inr, arith, subst}
 use Rattle.std.specs.Bool.{OnFalse}
 use Rattle.std.proofs.lemmas.Bool.{cases_eq, cases_Bool, both_ways, and_from, and_parts, or_cases, or_left, or_right}
@@ -19,7 +19,7 @@ use Rattle.graph_core.proofs.SideLaws.{has-none, has-below}
 use Rattle.graph_core.proofs.SizeLaws.{count-cons, weight_true, weight_false, weight_most, size-ge_sum}
 use Rattle.problem_defs.specs.Dijoin.{IsClosed, IsFeasible}
 use Rattle.dicut_lattice.specs.Reach.{IsReach}
-use Rattle.dicut_lattice.specs.Spread.{GoesBack, IsSpread, StepsBack, HasPassed, IsLeastSpread, SpreadsBetween, IsCommon}
+use Rattle.dicut_lattice.specs.Spread.{place_from, IsCounted, GoesBack, IsSpread, StepsBack, HasPassed, IsLeastSpread, SpreadsBetween, IsCommon}
 use Rattle.dicut_lattice.specs.Tight.{joins, IsTight, IsKernel, AreSeparated}
 use Rattle.dicut_lattice.proofs.ClosedSides.{has-meet, has-join, not_out, never_out}
 
@@ -79,43 +79,63 @@ steps-back g l X R long r in_head out =
     }
 
 -- one place more
-back-more : (arcs : List Line) (skip k : ℕ) (Y : List Bool) → GoesBack k arcs skip Y → ((l : Line) → slice_get arcs k ≡ Some l → k ≢ skip → has Y l.head ≡ true → has Y l.tail ≡ true) → GoesBack (k + 1) arcs skip Y
-back-more arcs skip k Y before here j l below at ne = elim (cases_eq j k) [
-  | inl e ↦ here l (rw e at at) (rw e at ne)
-  | inr other ↦ before j l (omega arith) at ne
+module _ {Seen More : ℕ → Type 0} {k : ℕ} (split : (j : ℕ) → More j → (j ≡ k) ⊎ Seen j) where
+  back-more : (arcs : List Line) (skip : ℕ) (Y : List Bool) → GoesBack Seen arcs skip Y → ((l : Line) → slice_get arcs k ≡ Some l → k ≢ skip → has Y l.head ≡ true → has Y l.tail ≡ true) → GoesBack More arcs skip Y
+  back-more arcs skip Y before here j l seen at ne = elim (split j seen) [
+    | inl e ↦ here l (rw e at at) (rw e at ne)
+    | inr other ↦ before j l other at ne
+  ]
+
+  module _ {g : GraphValue} {arcs : List Line} {skip : ℕ} {X Y : List Bool} where
+    passed-more : {grew : Bool} → HasPassed g arcs skip Seen X grew Y → ((l : Line) → slice_get arcs k ≡ Some l → k ≢ skip → has Y l.head ≡ true → has Y l.tail ≡ true) → HasPassed g arcs skip More X grew Y
+    passed-more {grew} p here = record { long = p.long; spreading = p.spreading; kept = p.kept; more = p.more; done = goes grew p.done }
+      where
+        goes : (b : Bool) → OnFalse b (GoesBack Seen arcs skip Y) → OnFalse b (GoesBack More arcs skip Y)
+        goes true d = tt
+        goes false d = back-more arcs skip Y d here
+
+    pub passed-skip : {grew : Bool} → HasPassed g arcs skip Seen X grew Y → k ≡ skip → HasPassed g arcs skip More X grew Y
+    passed-skip p e = passed-more p (λ l at ne. absurd (ne e))
+
+    pub passed-stay : {grew : Bool} {Z : List Bool} (l : Line) → HasPassed g arcs skip Seen X grew Y → slice_get arcs k ≡ Some l → StepsBack g l Y false Z → HasPassed g arcs skip More X grew Z
+    passed-stay {grew} l p at s =
+        subst (HasPassed g arcs skip More X grew) (sym s.same)
+        (passed-more p (λ m at_m ne in_h. let same : m ≡ l = cc in rw same (s.back (rw same at in_h))))
+
+    pub passed-step : {grew : Bool} {Z : List Bool} (l : Line) → HasPassed g arcs skip Seen X grew Y → slice_get arcs k ≡ Some l → k ≢ skip → StepsBack g l Y true Z → HasPassed g arcs skip More X true Z
+    passed-step l p at ne s = record {
+      long = s.long ∙ p.long;
+      spreading = λ y x.
+          let before = p.spreading y x in
+          record {
+            long = s.long ∙ before.long;
+            holds = s.kept y before.holds;
+            closed = s.closed before.closed;
+            within = λ W w in_y v h. s.within W w.closed (w.back k l (slice_get_within arcs k l at) at ne) (before.within W w in_y) v h;
+          };
+      kept = let a = p.kept in let b = s.more in omega arith;
+      more = let a = p.kept in let b = s.more in omega arith;
+      done = tt;
+    }
+
+-- the next place that is counted
+pub counted-more : (last : Bool) (m k next : ℕ) → next ≡ place_from last m k → (j : ℕ) → IsCounted last m (k + 1) j → (j ≡ next) ⊎ IsCounted last m k j
+counted-more last m k next at j (i, l, is) = elim (cases_eq i k) [
+  | inl e ↦ inl (sym is ∙ ap (place_from last m) e ∙ sym at)
+  | inr ne ↦ inr (i, omega arith, is)
 ]
 
-module _ {g : GraphValue} {arcs : List Line} {skip k : ℕ} {X Y : List Bool} where
-  passed-more : {grew : Bool} → HasPassed g arcs skip k X grew Y → ((l : Line) → slice_get arcs k ≡ Some l → k ≢ skip → has Y l.head ≡ true → has Y l.tail ≡ true) → HasPassed g arcs skip (k + 1) X grew Y
-  passed-more {grew} p here = record { long = p.long; spreading = p.spreading; kept = p.kept; more = p.more; done = goes grew p.done }
-    where
-      goes : (b : Bool) → OnFalse b (GoesBack k arcs skip Y) → OnFalse b (GoesBack (k + 1) arcs skip Y)
-      goes true d = tt
-      goes false d = back-more arcs skip k Y d here
+-- each place is counted
+counted-all : (last : Bool) (m j : ℕ) → j < m → IsCounted last m m j
+counted-all false m j l = (j, l, refl)
+counted-all true m j l = (m - (j + 1), omega arith, omega arith)
 
-  pub passed-skip : {grew : Bool} → HasPassed g arcs skip k X grew Y → k ≡ skip → HasPassed g arcs skip (k + 1) X grew Y
-  passed-skip p e = passed-more p (λ l at ne. absurd (ne e))
-
-  pub passed-stay : {grew : Bool} {Z : List Bool} (l : Line) → HasPassed g arcs skip k X grew Y → slice_get arcs k ≡ Some l → StepsBack g l Y false Z → HasPassed g arcs skip (k + 1) X grew Z
-  passed-stay {grew} l p at s =
-      subst (HasPassed g arcs skip (k + 1) X grew) (sym s.same)
-      (passed-more p (λ m at_m ne in_h. let same : m ≡ l = cc in rw same (s.back (rw same at in_h))))
-
-  pub passed-step : {grew : Bool} {Z : List Bool} (l : Line) → HasPassed g arcs skip k X grew Y → slice_get arcs k ≡ Some l → k ≢ skip → StepsBack g l Y true Z → HasPassed g arcs skip (k + 1) X true Z
-  passed-step l p at ne s = record {
-    long = s.long ∙ p.long;
-    spreading = λ y x.
-        let before = p.spreading y x in
-        record {
-          long = s.long ∙ before.long;
-          holds = s.kept y before.holds;
-          closed = s.closed before.closed;
-          within = λ W w in_y v h. s.within W w.closed (w.back k l (slice_get_within arcs k l at) at ne) (before.within W w in_y) v h;
-        };
-    kept = let a = p.kept in let b = s.more in omega arith;
-    more = let a = p.kept in let b = s.more in omega arith;
-    done = tt;
-  }
+pub passed-all : {g : GraphValue} {arcs : List Line} {skip : ℕ} {X Y : List Bool} (last : Bool) (grew : Bool) → HasPassed g arcs skip (IsCounted last (length arcs) (length arcs)) X grew Y → HasPassed g arcs skip (λ j. j < length arcs) X grew Y
+passed-all {g} {arcs} {skip} {X} {Y} last grew p = record { long = p.long; spreading = p.spreading; kept = p.kept; more = p.more; done = all grew p.done }
+  where
+    all : (b : Bool) → OnFalse b (GoesBack (IsCounted last (length arcs) (length arcs)) arcs skip Y) → OnFalse b (GoesBack (λ j. j < length arcs) arcs skip Y)
+    all true d = tt
+    all false d = λ j l below at ne. d j l (counted-all last (length arcs) j below) at ne
 
 -- one test that passes, at one place
 module _ {X : Type 0} (p : X → Bool) where

@@ -1,4 +1,4 @@
--- Networks in which the capacity that leaves a side counts the arcs that leave it, and those of a list that enter it.
+-- Networks in which the capacity that leaves a side counts the arcs that leave it, and those of a list that enter it. No public clause cites it.
 use Rattle.std.specs.Prelude.{ℕ, ◌≤◌, List, ◌++◌, map, length, All}
 use Rattle.graph_core.specs.Graph.{GraphValue, Fits}
 use Rattle.graph_core.specs.declared.graph.Line.{Line}

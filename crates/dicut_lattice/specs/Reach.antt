@@ -1,4 +1,4 @@
--- What each node reaches along arcs, as one side for each node: rows of truth values.
+-- What each node reaches along arcs, as one side for each node: rows of truth values. No public clause cites it.
 use Rattle.std.specs.Prelude.{ℕ, ◌≡◌, ◌<◌, Bool, true, ◌&&◌, ◌||◌, ◌⊎◌, List, [], length, slice_index_or, All}
 use Rattle.graph_core.specs.Graph.{GraphValue}
 use Rattle.graph_core.specs.Side.{has}

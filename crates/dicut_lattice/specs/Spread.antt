@@ -1,5 +1,5 @@
--- Sets that no arc leaves and that hold with the heads of some arcs also their tails.
-use Rattle.std.specs.Prelude.{ℕ, ◌≡◌, ◌≢◌, ◌<◌, ◌≤◌, Bool, true, false, List, length, slice_get, Some, All}
+-- Sets that no arc leaves and that hold with the heads of some arcs also their tails. No public clause cites them.
+use Rattle.std.specs.Prelude.{ℕ, ◌≡◌, ◌≢◌, ◌+◌, ◌-◌, ◌<◌, ◌≤◌, if◌then◌else◌, Bool, true, false, List, length, slice_get, Some, All}
 use Rattle.std.specs.Bool.{OnTrue, OnFalse}
 use Rattle.graph_core.specs.Graph.{GraphValue, Fits}
 use Rattle.graph_core.specs.Side.{has, size}
@@ -8,15 +8,23 @@ use Rattle.graph_core.specs.Picked.{picked}
 use Rattle.graph_core.specs.declared.graph.Line.{Line}
 use Rattle.problem_defs.specs.Dijoin.{IsFeasible}
 
--- with the head of each of the first k arcs, but that at one place, its tail is in the set
-abbrev pub GoesBack : ℕ → List Line → ℕ → List Bool → Type 0
-GoesBack k arcs skip W = (j : ℕ) (l : Line) → j < k → slice_get arcs j ≡ Some l → j ≢ skip → has W l.head ≡ true → has W l.tail ≡ true
+-- place i of m, counted from the last one or from the first
+abbrev pub place_from : Bool → ℕ → ℕ → ℕ
+place_from last m i = if last then m - (i + 1) else i
+
+-- place j is among the first k that are counted
+abbrev pub IsCounted : Bool → ℕ → ℕ → ℕ → Type 0
+IsCounted last m k j = (i : ℕ) × (i < k) × (place_from last m i ≡ j)
+
+-- with the head of each of these arcs, but that at one place, its tail is in the set
+abbrev pub GoesBack : (ℕ → Type 0) → List Line → ℕ → List Bool → Type 0
+GoesBack Among arcs skip W = (j : ℕ) (l : Line) → Among j → slice_get arcs j ≡ Some l → j ≢ skip → has W l.head ≡ true → has W l.tail ≡ true
 
 -- no arc of the graph leaves it, and of the listed arcs none but that at one place enters it
 pub record IsSpread (g : GraphValue) (arcs : List Line) (skip : ℕ) (W : List Bool) : Type 0 where
   pub long : length W ≡ length g.names
   pub closed : leaving W g.lines ≡ 0
-  pub back : GoesBack (length arcs) arcs skip W
+  pub back : GoesBack (λ j. j < length arcs) arcs skip W
 
 -- a set with y that no arc leaves, and that lies in each set that is spread and has y
 pub record IsSpreading (g : GraphValue) (arcs : List Line) (skip y : ℕ) (R : List Bool) : Type 0 where
@@ -35,13 +43,13 @@ pub record StepsBack (g : GraphValue) (l : Line) (X : List Bool) (grew : Bool) (
   pub same : OnFalse grew (Y ≡ X)
   pub back : OnFalse grew (has X l.head ≡ true → has X l.tail ≡ true)
 
--- X has become Y by the first k of the arcs, which is larger or goes back along them
-pub record HasPassed (g : GraphValue) (arcs : List Line) (skip k : ℕ) (X : List Bool) (grew : Bool) (Y : List Bool) : Type 0 where
+-- X has become Y by some of the arcs, which is larger or goes back along them
+pub record HasPassed (g : GraphValue) (arcs : List Line) (skip : ℕ) (Among : ℕ → Type 0) (X : List Bool) (grew : Bool) (Y : List Bool) : Type 0 where
   pub long : length Y ≡ length X
   pub spreading : (y : ℕ) → IsSpreading g arcs skip y X → IsSpreading g arcs skip y Y
   pub kept : size X ≤ size Y
   pub more : OnTrue grew (size X < size Y)
-  pub done : OnFalse grew (GoesBack k arcs skip Y)
+  pub done : OnFalse grew (GoesBack Among arcs skip Y)
 
 -- the smallest set with y that is spread
 pub record IsLeastSpread (g : GraphValue) (arcs : List Line) (skip y : ℕ) (R : List Bool) : Type 0 where

@@ -1,7 +1,7 @@
 ghost use Rattle.std.specs.Prelude.{◌≡◌, ◌<◌, length, All, IfOk};
 ghost use Rattle.graph_core.specs.Graph.{Fits};
 ghost use Rattle.problem_defs.specs.Dijoin.{IsFeasible};
-ghost use Rattle.dicut_lattice.specs.Spread.{StepsBack, HasPassed, IsLeastSpread, IsCommon};
+ghost use Rattle.dicut_lattice.specs.Spread.{place_from, StepsBack, HasPassed, IsLeastSpread, IsCommon};
 ghost use Rattle.dicut_lattice.specs.Tight.{IsKernel};
 
 use crate::picks::picked_lines;
@@ -33,6 +33,7 @@ impl<'a> Model for Kernels<'a> {
 }
 
 impl<'a> Kernels<'a> {
+    /// For the kernels of a dijoin.
     pub fn new(alloc: Global, graph: &'a Graph, join: &'a Numbers) -> Result<Kernels<'a>, NoMemory>
         requires { IsFeasible graph.now join.now }
         ensures { IfOk result (λ kernels. kernels ≡ record { graph = graph.now; join = join.now }) }
@@ -92,22 +93,43 @@ fn spread(reach: &Reach, arcs: &[Line], skip: usize, y: u32, into: &mut Side)
     ensures { IsLeastSpread reach.now arcs.now skip y into.new }
 {
     into.set_to(reach.side(y));
-    while pass(reach, arcs, skip, into) {}
+    while pass_both(reach, arcs, skip, into) {}
 }
 
-/// Spreads the set over each of the arcs once, and tells whether it grew.
-fn pass(reach: &Reach, arcs: &[Line], skip: usize, into: &mut Side) -> bool
+/// Spreads the set over the arcs from the last to the first, and if it grew also from the first to the last; and tells
+/// whether it grew by the last pass. On a long path whose arcs are numbered along it or against it, the passes of one
+/// direction take in a node at a time, and those of the other take in all.
+fn pass_both(reach: &Reach, arcs: &[Line], skip: usize, into: &mut Side) -> bool
     requires fit { All (Fits (length reach.now.names)) arcs.now }
     requires long { length into.old ≡ length reach.now.names }
-    ensures { HasPassed reach.now arcs.now skip (length arcs.now) into.old result into.new }
+    ensures { HasPassed reach.now arcs.now skip (λ j. j < length arcs.now) into.old result into.new }
+{
+    pass(reach, arcs, skip, true, into) && pass(reach, arcs, skip, false, into)
+}
+
+/// Spreads the set over each of the arcs once, from the last or from the first one on, and tells whether it grew.
+fn pass(reach: &Reach, arcs: &[Line], skip: usize, last: bool, into: &mut Side) -> bool
+    requires fit { All (Fits (length reach.now.names)) arcs.now }
+    requires long { length into.old ≡ length reach.now.names }
+    ensures { HasPassed reach.now arcs.now skip (λ j. j < length arcs.now) into.old result into.new }
 {
     let mut grew = false;
-    for (place, line) in arcs.iter().enumerate() {
-        if place != skip && go_back(reach, *line, into) {
+    for seen in 0..arcs.len() {
+        let place = counted(last, arcs.len(), seen);
+        if place != skip && go_back(reach, arcs[place], into) {
             grew = true;
         }
     }
     grew
+}
+
+/// Place `i` of `m`, counted from the last one or from the first.
+fn counted(last: bool, m: usize, i: usize) -> usize
+    requires { i < m }
+    ensures is { result ≡ place_from last m i }
+    ensures within { result < m }
+{
+    if last { m - (i + 1) } else { i }
 }
 
 /// Where the arc enters the set, joins to it what the tail reaches, and tells so.

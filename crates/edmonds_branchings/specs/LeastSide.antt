@@ -1,4 +1,4 @@
--- A least cut into a digraph's nodes without a root.
+-- A least cut into a digraph's nodes without a root. No public clause cites it.
 use Rattle.std.specs.Prelude.{ℕ, ◌≡◌, ◌≤◌, Bool, false, List}
 use Rattle.graph_core.specs.Side.{has, IsNonempty}
 use Rattle.graph_core.specs.Lines.{entering}

@@ -1,4 +1,4 @@
--- The digraph turned round, with one node more that the roots lead to.
+-- The digraph turned round, with one node more that the roots lead to. No public clause cites it.
 use Rattle.std.specs.Prelude.{ℕ, ◌≡◌, ◌+◌, ◌-◌, ◌<◌, ◌≤◌, List, length, map, slice_get, slice_index_or, slice_set, All, Some}
 use Rattle.graph_core.specs.declared.graph.Line.{Line}
 use Rattle.problem_defs.specs.declared.cert.Way.TheVariants.{Entering}

@@ -1,4 +1,4 @@
--- A round: the covered nodes grow from the last node on, and each side without it keeps its capacity, or all but one.
+-- A round: the covered nodes grow from the last node on, and each side without it keeps its capacity, or all but one. No public clause cites it.
 use Rattle.std.specs.Prelude.{ℕ, ◌≡◌, ◌+◌, ◌<◌, ◌≤◌, Bool, true, false, List, length}
 use Rattle.graph_core.specs.Side.{has}
 use Rattle.flow_cuts.specs.declared.network.Cap.{Cap}

@@ -1,4 +1,4 @@
--- The branching that a round makes.
+-- The branching that a round makes. No public clause cites it.
 use Rattle.std.specs.Prelude.{ℕ, ◌≡◌, ◌+◌, ◌<◌, ◌≤◌, ◌==◌, ◌++◌, [], ◌∷◌, nat_lt, Bool, true, cond, List, length, All}
 use Rattle.graph_core.specs.Side.{has}
 use Rattle.graph_core.specs.Picked.{picked, occurrences}

@@ -1,4 +1,4 @@
--- Walks along links, by the links' numbers.
+-- Walks along links, by the links' numbers. No public clause cites it.
 use Rattle.std.specs.Prelude.{◌≡◌, ℕ, ◌<◌, ◌≤◌, List, [], ◌∷◌, length, All, sum_by}
 use Rattle.graph_core.specs.Picked.{occurrences}
 use Rattle.flow_cuts.specs.declared.network.Link.{Link}

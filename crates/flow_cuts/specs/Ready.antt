@@ -1,4 +1,4 @@
--- What holds of what a run changes, before the run and after it.
+-- What holds of what a run changes, before the run and after it. No public clause cites it.
 use Rattle.std.specs.Prelude.{◌≡◌, ℕ, ◌<◌, ◌≤◌, List, length, Bool}
 use Rattle.flow_cuts.specs.declared.network.Cap.{Cap}
 use Rattle.flow_cuts.specs.declared.network.Link.{Link}

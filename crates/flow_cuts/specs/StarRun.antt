@@ -1,4 +1,4 @@
--- Serves the proofs: the two sides of a run in the network of a star, whose new node is node n.
+-- The two sides of a run in the network of a star, whose new node is node n. No public clause cites it.
 use Rattle.std.specs.Prelude.{ℕ, ◌≡◌, ◌⊎◌, Bool, true, List}
 use Rattle.graph_core.specs.Side.{has}
 

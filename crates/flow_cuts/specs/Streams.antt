@@ -1,4 +1,4 @@
--- What is sent along each link, and what is left of it when a unit is taken away.
+-- What is sent along each link, and what is left of it when a unit is taken away. No public clause cites it.
 use Rattle.std.specs.Prelude.{◌≡◌, ℕ, ◌+◌, ◌-◌, ◌≤◌, List, length, slice_set, Bool, sum_by}
 use Rattle.flow_cuts.specs.declared.network.Link.{Link}
 use Rattle.flow_cuts.specs.declared.network.Step.{Step}

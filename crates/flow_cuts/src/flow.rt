@@ -153,7 +153,8 @@ impl Flow {
         answer
     }
 
-    /// The smallest side out of which no more capacity goes than the last run answered.
+    /// The smallest side that holds the inside of the last run, misses its outside, and is left by as much capacity as the run
+    /// answered.
     pub fn side(&self, into: &mut Side)
         requires short { FellShort self.now }
         requires len { length into.old ≡ self.now.nodes }
@@ -162,7 +163,8 @@ impl Flow {
         into.set_to(&self.residual.near);
     }
 
-    /// The largest side out of which no more capacity goes than the last run answered.
+    /// The largest side that holds the inside of the last run, misses its outside, and is left by as much capacity as the run
+    /// answered.
     pub fn wide_side(&self, into: &mut Side)
         requires short { FellShort self.now }
         requires len { length into.old ≡ self.now.nodes }

@@ -1,4 +1,4 @@
--- How many forests a class asks for.
+-- How many forests a class asks for. No public clause cites it.
 use Rattle.std.specs.Prelude.{ℕ, ◌-◌, ◌≤◌, Bool, List, cond, nat_lt, slice_index_or, All, [], length, ◌<◌}
 use Rattle.std.specs.Int.{div_ceil}
 use Rattle.graph_core.specs.Side.{size}

@@ -1,4 +1,4 @@
--- Classes of nodes by labels, which serve the proofs about forests. No public clause cites them.
+-- Classes of nodes by labels, which serve the proofs about forests.
 use Rattle.std.specs.Prelude.{◌≡◌, ℕ, ◌+◌, ◌<◌, ◌≤◌, ◌==◌, Bool, not, cond, List, count_by}
 use Rattle.graph_core.specs.Side.{size}
 use Rattle.graph_core.specs.Lines.{within}

@@ -1,4 +1,4 @@
--- What contracts see of a graph that is being read.
+-- What is known of a graph that is being read. No public clause cites it.
 use Rattle.std.specs.Prelude.{ℕ, ◌≤◌, ◌≡◌, ◌≢◌, Bool, true, List, length, map, sum, sum_by, All, AllPairs}
 use Rattle.std.specs.declared.option.Option.{Option}
 use Rattle.std.specs.declared.option.Option.TheVariants.{Some}

@@ -1,4 +1,4 @@
--- What an item says, without where its words lie.
+-- What an item says, without where its words lie. No public clause cites it.
 use Rattle.graph_text.specs.declared.item.Item.{Item}
 use Rattle.graph_text.specs.declared.item.Item.TheVariants as item
 use Rattle.graph_text.specs.Said.{Said, Skipped, Header, Node, Edge, Arc, End, Other}

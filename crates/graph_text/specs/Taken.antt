@@ -1,4 +1,4 @@
--- What the lines of a text add, one after another.
+-- What the lines of a text add, one after another. No public clause cites it.
 use Rattle.std.specs.Prelude.{ℕ, ◌+◌, ◌-◌, ◌<◌, ◌≤◌, ◌≡◌, Bool, true, false, sum, List, [], ◌∷◌, ◌++◌, length, take}
 use Rattle.std.specs.declared.option.Option.TheVariants.{None, Some}
 use Rattle.std.specs.Str.{bytes_eq}

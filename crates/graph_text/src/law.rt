@@ -11,7 +11,7 @@ pub fn one_reading()
     ensures not_both { (bytes : List ℕ) (g : GraphValue) (c i : ℕ) (why : Why) → ReadsText bytes g c → IsFault bytes i why → ⊥ }
 {}
 
-/// So it is with the rule on what follows the text.
+/// The same for a text behind whose `end` line nothing but blank lines and comments follows.
 pub fn one_reading_alone()
     ensures one_text { (bytes : List ℕ) (g h : GraphValue) → IsTextAlone bytes g → IsTextAlone bytes h → g ≡ h }
     ensures one_fault { (bytes : List ℕ) (i j : ℕ) (why other : Why) → IsFaultAlone bytes i why → IsFaultAlone bytes j other → (i ≡ j) × (why ≡ other) }

@@ -8,8 +8,7 @@ use graph_core::{Graph, Kind, Line, NoMemory};
 use itoa::Buffer;
 use std::alloc::Global;
 
-/// The plain text of the graph. A text whose arcs cost more than 4,000 together would not be read
-/// back.
+/// The plain text of a graph whose arcs cost at most 4,000 together, since no other would be read back.
 pub fn write_graph(alloc: Global, graph: &Graph) -> Result<Vec<u8>, NoMemory>
     requires { HasFewCosts graph.now }
     ensures { IfOk result (λ text. text.items ≡ plain_text graph.now) }

@@ -29,7 +29,7 @@ pub struct Graphic {
 }
 
 impl Graphic {
-    /// It takes all the memory that `is_free` needs.
+    /// The matroid of the graph's forests, with all the memory that `is_free` needs.
     pub fn new(alloc: Global, graph: &Graph) -> Result<Graphic, NoMemory>
         ensures nodes { IfOk result (λ g. g.nodes ≡ length graph.now.names) }
         ensures lines { IfOk result (λ g. g.lines.items ≡ graph.now.lines) }

@@ -1,12 +1,12 @@
 //! Certificates of every command are read and written, and bad ones have their line.
 
 use crate::asserts::same;
-use crate::examples::{ARC, BACKBONE, COMPLETE, EDGE, K4, PATH, graph_of};
 use certificate_text::{CertRefusal, read_cert, write_cert};
 use graph_core::{Graph, NoMemory};
 use std::alloc::Global;
 use std::process::Abort;
 use std::test::Fail;
+use test_graphs::{ARC, BACKBONE, COMPLETE, EDGE, K4, PATH, graph_of};
 
 // A graph, what is read as a certificate, and the first bad line; 0 where there is none.
 const TEXTS: [(&[u8], &str, usize); 42] = [

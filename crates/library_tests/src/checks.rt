@@ -1,11 +1,11 @@
 //! Certificates of a square and of each ordered pair of three nodes, right and wrong.
 
 use crate::asserts::same;
-use crate::examples::{COMPLETE, SQUARE, graph_of};
 use certificate_checker::{Rejection, check};
 use std::alloc::Global;
 use std::process::Abort;
 use std::test::Fail;
+use test_graphs::{COMPLETE, SQUARE, graph_of};
 
 // A graph, a certificate for it, and the checker's answer.
 const CHECKS: [(&[u8], &str, Result<(), Rejection>); 52] = [

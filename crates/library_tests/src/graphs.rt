@@ -5,11 +5,11 @@ ghost use Rattle.graph_core.specs.Side.{IsProper};
 ghost use Rattle.graph_core.specs.Families.{IsPartition};
 
 use crate::asserts::same;
-use crate::examples::graph_of;
 use graph_core::{Graph, Kind, Line, Name, NoMemory, Numbers, Pairs, Side, Sides};
 use std::alloc::Global;
 use std::process::Abort;
 use std::test::Fail;
+use test_graphs::graph_of;
 
 // Lines ab, ab, ba, bc, ac. Two are parallel, one is opposite to both, and d is the end of none.
 const GRAPHS: [(Kind, &[u8]); 2] = [

@@ -1,13 +1,13 @@
 //! Commands, places and asks, worked out from the table of commands.
 
 use crate::asserts::same;
-use crate::examples::{ARC, EDGE, graph_of};
 use connect_words::{Command, TrialKind, WordFault, ask_of, read_words};
 use graph_core::Graph;
 use problem_defs::{Ask, Misfit};
 use std::alloc::{AllocError, Global};
 use std::process::Abort;
 use std::test::Fail;
+use test_graphs::{ARC, EDGE, graph_of};
 
 /// The words of a line, with one space between two words.
 fn words(alloc: Global, line: &str) -> Result<Vec<String>, AllocError> {

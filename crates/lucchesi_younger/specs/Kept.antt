@@ -1,4 +1,4 @@
--- The conditions that the work keeps.
+-- The conditions that the work keeps. No public clause cites it.
 use Rattle.std.specs.Prelude.{ℕ, ◌≡◌, ◌≢◌, ◌+◌, ◌<◌, ◌≤◌, false, Bool, List, length, map, slice_get, slice_index_or, Some, sum, sum_by, min, cond, All}
 use Rattle.std.proofs.Common.{leb}
 use Rattle.graph_core.specs.Graph.{GraphValue}

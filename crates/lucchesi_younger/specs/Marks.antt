@@ -1,4 +1,4 @@
--- Marks of arcs, one for each, and how they change.
+-- Marks of arcs, one for each, and how they change. No public clause cites it.
 use Rattle.std.specs.Prelude.{ℕ, ◌≡◌, ◌⊎◌, Bool, true, cond, List, length}
 use Rattle.graph_core.specs.Side.{has}
 use Rattle.graph_core.specs.Picked.{occurrences}

@@ -1,4 +1,4 @@
--- The kernels that were found, each in the row of its node.
+-- The kernels that were found, each in the row of its node. No public clause cites them.
 use Rattle.std.specs.Prelude.{ℕ, ◌≡◌, ◌<◌, Bool, true, false, List, length, Option, Some, None, slice_index_or}
 use Rattle.graph_core.specs.Graph.{GraphValue}
 use Rattle.graph_core.specs.Side.{has}

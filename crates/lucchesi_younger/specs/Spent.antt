@@ -1,4 +1,4 @@
--- Costs that were raised, arc by arc.
+-- Costs that were raised, arc by arc. No public clause cites it.
 use Rattle.std.specs.Prelude.{ℕ, ◌≡◌, ◌≢◌, ◌+◌, ◌<◌, ◌≤◌, true, false, Bool, List, sum}
 use Rattle.std.specs.Bool.{OnTrue, OnFalse}
 use Rattle.graph_core.specs.declared.graph.Line.{Line}

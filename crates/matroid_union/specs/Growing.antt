@@ -1,4 +1,4 @@
--- Free sets that grow, one for each part.
+-- Free sets that grow, one for each part. No public clause cites it.
 use Rattle.std.specs.Prelude.{◌≡◌, ℕ, Bool, List, length, slice_get, Some}
 use Rattle.graph_core.specs.Sets.{set_of}
 

@@ -1,4 +1,4 @@
--- Disjoint parts: each element's part, or none.
+-- Disjoint parts: each element's part, or none. No public clause cites it.
 use Rattle.std.specs.Prelude.{◌≡◌, ℕ, ◌<◌, ◌==◌, nat_le, Bool, false, cond, ◌&&◌, ◌||◌, List, map, slice_index_or, count_by, Option, Some, None}
 use Rattle.std.specs.List.{filter, range_with_len}
 use Rattle.std.specs.Option.{is_none}

@@ -1,4 +1,4 @@
--- A search from an element that no part has.
+-- A search from an element that no part has. No public clause cites it.
 use Rattle.std.specs.Prelude.{◌≡◌, ◌⊎◌, ◌+◌, ℕ, ◌<◌, ◌≤◌, Bool, true, false, List, length, slice_index, Option}
 use Rattle.graph_core.specs.Side.{has, size}
 use Rattle.matroid_union.specs.Sets.{plus}

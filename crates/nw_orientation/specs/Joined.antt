@@ -1,4 +1,4 @@
--- How many edges lie between two nodes. This serves the proofs.
+-- How many edges lie between two nodes. No public clause cites it.
 use Rattle.std.specs.Prelude.{ℕ, ◌≡◌, ◌<◌, ◌≤◌, Bool, true, false, List, length, Option, None, Some}
 use Rattle.graph_core.specs.Connected.{IsEdgeConnected}
 use Rattle.graph_core.specs.Lines.{degree}

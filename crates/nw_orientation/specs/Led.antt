@@ -1,4 +1,4 @@
--- Directions led back through a node that was split off. This serves the proofs.
+-- Directions led back through a node that was split off. No public clause cites it.
 use Rattle.std.specs.Prelude.{ℕ, ◌≡◌, ◌<◌, ◌==◌, ◌&&◌, Bool, cond, List, [], ◌∷◌, length, count_by}
 use Rattle.graph_core.specs.Graph.{line_of}
 use Rattle.graph_core.specs.declared.graph.Line.{Line}

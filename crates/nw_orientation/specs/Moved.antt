@@ -1,4 +1,4 @@
--- Node z taken out of the nodes up to q: node q gets its number. This serves the proofs.
+-- Node z taken out of the nodes up to q: node q gets its number. No public clause cites it.
 use Rattle.std.specs.Prelude.{ℕ, ◌==◌, Bool, true, false, not, ◌||◌, cond, List, map}
 use Rattle.graph_core.specs.declared.graph.Line.{Line}
 use Rattle.nw_orientation.specs.Chosen.{chosen}

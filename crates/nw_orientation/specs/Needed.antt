@@ -1,4 +1,4 @@
--- Edges that can't be deleted: each crosses a proper side with no edge to spare. This serves the proofs.
+-- Edges that can't be deleted: each crosses a proper side with no edge to spare. No public clause cites it.
 use Rattle.std.specs.Prelude.{ℕ, ◌≡◌, ◌<◌, ◌≤◌, Bool, true, List, length, slice_index_or, count_by, All}
 use Rattle.graph_core.specs.Connected.{IsEdgeConnected}
 use Rattle.graph_core.specs.Lines.{crosses, degree}

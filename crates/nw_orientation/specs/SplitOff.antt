@@ -1,4 +1,4 @@
--- A node of least degree split off, and how its edges' directions are led back. This serves the proofs.
+-- A node of least degree split off, and how its edges' directions are led back. No public clause cites it.
 use Rattle.std.specs.Prelude.{ℕ, ◌≡◌, ◌+◌, ◌*◌, ◌<◌, ◌≤◌, Bool, true, List, ◌++◌, length, count_by, slice_index, map, drop, All}
 use Rattle.graph_core.specs.Connected.{IsEdgeConnected}
 use Rattle.graph_core.specs.Graph.{GraphValue, Fits, lines_of}

@@ -1,4 +1,4 @@
--- Weighted pairs of nodes.
+-- Weighted pairs of nodes. No public clause cites it.
 use Rattle.std.specs.Prelude.{ℕ, ◌<◌, List, slice_index_or, All}
 
 abbrev pub no_pair : ℕ × ℕ × ℕ

@@ -1,4 +1,4 @@
--- Serves the proofs: one of a star's two functions, as arcs with capacities and counts of the nodes.
+-- One of a star's two functions, as arcs with capacities and counts of the nodes. No public clause cites it.
 use Rattle.std.specs.Prelude.{ℕ, ◌≡◌, ◌<◌, ◌≤◌, Bool, List, length, slice_index, sum, All}
 use Rattle.flow_cuts.specs.NewNode.{value_with}
 use Rattle.split_directed.specs.declared.half.Half.{Half}

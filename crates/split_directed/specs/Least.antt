@@ -1,4 +1,4 @@
--- Serves the proofs: the least value of a function of sides, up to a limit, over the proper sides that hold two nodes.
+-- The least value of a function of sides, up to a limit, over the proper sides that hold two nodes. No public clause cites it.
 use Rattle.std.specs.Prelude.{ℕ, ◌≡◌, ◌<◌, ◌≤◌, Bool, true, false, List, slice_index}
 use Rattle.graph_core.specs.Side.{has, IsProper}
 

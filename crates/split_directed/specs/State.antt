@@ -1,4 +1,4 @@
--- Serves the proofs: what is left of a star that is being split off, and its two halves.
+-- What is left of a star that is being split off, and its two halves. No public clause cites it.
 use Rattle.std.specs.Prelude.{ℕ, ◌≡◌, ◌+◌, ◌≤◌, ◌==◌, List, [], ◌∷◌, ◌++◌, cond, length, sum, All}
 use Rattle.graph_core.specs.Graph.{Fits}
 use Rattle.cut_fn.specs.Covered.{IsCovered}

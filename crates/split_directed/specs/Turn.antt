@@ -1,4 +1,4 @@
--- Serves the proofs: splitting off the arcs to one node, the most that a pair may be split off, and a tight side that grows.
+-- Splitting off the arcs to one node, the most that a pair may be split off, and a tight side that grows. No public clause cites it.
 use Rattle.std.specs.Prelude.{ℕ, ◌≡◌, ◌≢◌, ◌+◌, ◌<◌, ◌≤◌, Bool, true, false, List, length, slice_index, sum, All, AllPairs}
 use Rattle.graph_core.specs.Side.{has, size, IsProper}
 use Rattle.cut_fn.specs.Covered.{IsTight}

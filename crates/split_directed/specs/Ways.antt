@@ -1,4 +1,4 @@
--- Serves the proofs: the two functions of a star, and what each is made of.
+-- The two functions of a star, and what each is made of. No public clause cites it.
 use Rattle.std.specs.Prelude.{ℕ, ◌+◌, ◌==◌, ◌&&◌, Bool, true, false, List, [], ◌∷◌, cond, slice_index}
 use Rattle.graph_core.specs.Side.{has, join, sum_over}
 use Rattle.flow_cuts.specs.declared.network.Cap.{Cap}

@@ -1,4 +1,4 @@
--- Values of sides in a star that is k-covered, and its dangerous sides. This serves the proofs.
+-- Values of sides in a star that is k-covered, and its dangerous sides. No public clause cites it.
 use Rattle.std.specs.Prelude.{ℕ, ◌≡◌, ◌+◌, ◌*◌, ◌/◌, ◌≤◌, ◌⊎◌, ◌==◌, Bool, true, false, not, ◌&&◌, ◌||◌, nat_le, cond, List, length, replicate}
 use Rattle.graph_core.specs.Side.{has, sum_over, complement, IsProper}
 use Rattle.cut_fn.specs.Submodular.{BoundsThreeSides}

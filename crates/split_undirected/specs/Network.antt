@@ -1,4 +1,4 @@
--- A star as a network: the graph's edges in both directions, and an arc from each node to the new one. This serves the proofs.
+-- A star as a network: the graph's edges in both directions, and an arc from each node to the new one. No public clause cites it.
 use Rattle.std.specs.Prelude.{ℕ, ◌≡◌, ◌+◌, ◌*◌, ◌<◌, ◌≤◌, Bool, true, List, [], ◌∷◌, length, sum, slice_index, All}
 use Rattle.graph_core.specs.Side.{has, IsProper}
 use Rattle.graph_core.specs.Graph.{Fits}

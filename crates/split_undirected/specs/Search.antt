@@ -1,4 +1,4 @@
--- A search for the least value of a proper side with u and v, by sides that miss one node after another. This serves the proofs.
+-- A search for the least value of a proper side with u and v, by sides that miss one node after another. No public clause cites it.
 use Rattle.std.specs.Prelude.{ℕ, ◌≡◌, ◌+◌, ◌*◌, ◌<◌, ◌≤◌, ◌⊎◌, Bool, true, List, length}
 use Rattle.graph_core.specs.Side.{has, sum_over, IsProper}
 use Rattle.flow_cuts.specs.Cuts.{IsWithin}

@@ -1,4 +1,4 @@
--- Serves the proofs: the least value of the proper sides that hold a node.
+-- The least value of the proper sides that hold a node. No public clause cites it.
 use Rattle.std.specs.Prelude.{ℕ, ◌≡◌, ◌<◌, ◌≤◌, Bool, true, List}
 use Rattle.graph_core.specs.Side.{has, IsProper}
 

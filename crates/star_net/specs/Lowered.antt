@@ -1,4 +1,4 @@
--- Serves the proofs: counts that make a star k-covered, of which those of the first nodes can't be lowered.
+-- Counts that make a star k-covered, of which those of the first nodes can't be lowered. No public clause cites it.
 use Rattle.std.specs.Prelude.{ℕ, ◌≡◌, ◌<◌, ◌≤◌, Bool, List, length, slice_index}
 use Rattle.graph_core.specs.Families.{members_with}
 use Rattle.cut_fn.specs.Covered.{IsCovered, AreTight}

@@ -1,4 +1,4 @@
--- The partition with which a search for spanning trees begins.
+-- The partition with which a search for spanning trees begins. No public clause cites it.
 use Rattle.std.specs.Prelude.{ℕ, ◌≡◌, ◌-◌, ◌/◌, ◌≤◌, Bool, List, length}
 use Rattle.graph_core.specs.Graph.{GraphValue}
 use Rattle.graph_core.specs.Side.{IsOnly, IsProper}

@@ -7,7 +7,7 @@ use Rattle.std.proofs.lemmas.List.{ext_get_or, get_or_default, get_or_past, get_
 use Rattle.std.proofs.lemmas.List.Elements.{All-get_or, All-from_get_or}
 use Rattle.std.proofs.lemmas.List.FromFn.{length-map-range_with_len, get_or-map-range_with_len, fill_by_all}
 use Rattle.std.proofs.lemmas.Simd.{length-zip2, get_or-zip2}
-use Rattle.word_sides.specs.Words.{bit, value, values, without, IsClean}
+use Rattle.word_sides.specs.Words.{bit, value, values, without, room, IsClean}
 use Rattle.word_sides.proofs.BitLaws.{bit-zero, bit-and, bit-or, bit-without, same_bits}
 use lib.Lanes.{zip2}
 
@@ -79,7 +79,7 @@ at-zeros k j =
 pub values-zeros : (n k : ℕ) → values n (replicate k 0) ≡ replicate n false
 values-zeros n k = values_are n (replicate k 0) (replicate n false) (length-replicate n false) (λ i l. value-none (replicate k 0) (at-zeros k) i ∙ sym (get_or-replicate n i false false l))
 
-pub clean-zeros : (n k : ℕ) → n ≤ 8192 → k ≡ (n + 63) / 64 → IsClean n (replicate k 0)
+pub clean-zeros : (n k : ℕ) → n ≤ 8192 → k ≡ room n → IsClean n (replicate k 0)
 clean-zeros n k few long = record { few = few; long = length-replicate k 0 ∙ long; past = λ i l. value-none (replicate k 0) (at-zeros k) i }
 
 -- ---- one value put
@@ -94,20 +94,17 @@ value-put_other ws v w l kept i ne =
       | inr apart ↦ ap (λ x. bit x (i % 64)) (get_or-set_other ws (v / 64) (i / 64) w 0 apart)
     ]
 
-module _ (n : ℕ) (ws : List ℕ) (v w : ℕ) (on : Bool) (clean : IsClean n ws) (l : v < n) (here : bit w (v % 64) ≡ on) (kept : (i : ℕ) → i < 64 → i ≢ v % 64 → bit w i ≡ bit (get_or ws (v / 64) 0) i) where
-  within : v / 64 < length ws
-  within = omega (arith, clean.long)
-
-  pub values-put : values n (set ws (v / 64) w) ≡ set (values n ws) v on
+module _ (n : ℕ) (ws zs : List ℕ) (v : ℕ) (on : Bool) (clean : IsClean n ws) (l : v < n) (alike : length zs ≡ length ws) (here : value zs v ≡ on) (elsewhere : (i : ℕ) → i ≢ v → value zs i ≡ value ws i) where
+  pub values-put : values n zs ≡ set (values n ws) v on
   values-put =
-      values_are n (set ws (v / 64) w) (set (values n ws) v on) (length-set (values n ws) v on ∙ length-values n ws)
+      values_are n zs (set (values n ws) v on) (length-set (values n ws) v on ∙ length-values n ws)
       (λ i li. elim (cases_eq i v) [
-        | inl e ↦ ap (value (set ws (v / 64) w)) e ∙ value-put_same ws v w within ∙ here ∙ sym (get_or-set_same (values n ws) v on false (omega (arith, length-values n ws))) ∙ ap (λ j. get_or (set (values n ws) v on) j false) (sym e)
-        | inr ne ↦ value-put_other ws v w within kept i ne ∙ sym (at-values n ws i li) ∙ sym (get_or-set_other (values n ws) v i on false ne)
+        | inl e ↦ ap (value zs) e ∙ here ∙ sym (get_or-set_same (values n ws) v on false (omega (arith, length-values n ws))) ∙ ap (λ j. get_or (set (values n ws) v on) j false) (sym e)
+        | inr ne ↦ elsewhere i ne ∙ sym (at-values n ws i li) ∙ sym (get_or-set_other (values n ws) v i on false ne)
       ])
 
-  pub clean-put : IsClean n (set ws (v / 64) w)
-  clean-put = record { few = clean.few; long = length-set ws (v / 64) w ∙ clean.long; past = λ i li. value-put_other ws v w within kept i (λ e. absurd (omega arith)) ∙ clean.past i li }
+  pub clean-put : IsClean n zs
+  clean-put = record { few = clean.few; long = alike ∙ clean.long; past = λ i li. elsewhere i (λ e. absurd (omega arith)) ∙ clean.past i li }
 
 -- a list of words is made place by place
 pub zip2_are : (g : ℕ → ℕ → ℕ) (zs xs ys : List ℕ) → length zs ≡ length xs → length xs ≡ length ys → ((k : ℕ) → k < length zs → get_or zs k 0 ≡ g (get_or xs k 0) (get_or ys k 0)) → zs ≡ zip2 g xs ys
@@ -181,14 +178,22 @@ module _ (n m : ℕ) (xs ys : List ℕ) (X Y : List Bool) (vx : values n xs ≡ 
   pub as_long : IsClean n xs → IsClean m ys → length xs ≡ length ys
   as_long cx cy = omega (arith, as_many, cx.long, cy.long)
 
-  pub clean-made : (f : Bool → Bool → Bool) (g : ℕ → ℕ → ℕ) → IsBitwise f g → IsClean n xs → IsClean m ys → IsClean n (zip2 g xs ys)
-  clean-made f g law cx cy = clean-zip2 f g law n xs ys cx (subst (λ k. IsClean k ys) (sym as_many) cy)
+  module _ (f : Bool → Bool → Bool) (g : ℕ → ℕ → ℕ) (law : IsBitwise f g) (cx : IsClean n xs) (cy : IsClean m ys) where
+    theirs-clean : IsClean n ys
+    theirs-clean = subst (λ k. IsClean k ys) (sym as_many) cy
 
-  pub values-made : (f : Bool → Bool → Bool) (g : ℕ → ℕ → ℕ) → IsBitwise f g → IsClean n xs → IsClean m ys → values n (zip2 g xs ys) ≡ zip2 f X Y
-  values-made f g law cx cy =
-      let mine = subst (λ k. IsClean k ys) (sym as_many) cy in
-      let theirs : values n ys ≡ Y = ap (λ k. values k ys) as_many ∙ vy in
-      values-zip2 f g law n xs ys cx mine ∙ ap (λ Z. zip2 f Z (values n ys)) vx ∙ ap (zip2 f X) theirs
+    theirs : values n ys ≡ Y
+    theirs = ap (λ k. values k ys) as_many ∙ vy
+
+    -- words that were made of the two, place by place
+    module _ (k : ℕ) (zs ys' : List ℕ) (ek : k ≡ n) (ez : zs ≡ zip2 g xs ys') (ey : ys' ≡ ys) where
+      pub clean-made : IsClean k zs
+      clean-made = subst (λ j. IsClean j zs) (sym ek) (subst (IsClean n) (sym (ez ∙ ap (zip2 g xs) ey)) (clean-zip2 f g law n xs ys cx theirs-clean))
+
+      pub values-made : values k zs ≡ zip2 f X Y
+      values-made =
+          ap (λ j. values j zs) ek ∙ ap (values n) (ez ∙ ap (zip2 g xs) ey) ∙ values-zip2 f g law n xs ys cx theirs-clean
+          ∙ ap (λ Z. zip2 f Z (values n ys)) vx ∙ ap (zip2 f X) theirs
 
 -- a word that stands at j
 pub word-at : (ws : List ℕ) (j w : ℕ) → j < length ws → w ≡ get_or ws j w → w ≡ get_or ws j 0

@@ -1,5 +1,5 @@
 -- Truth values in words of 64 bits.
-use Rattle.std.specs.Prelude.{◌≡◌, ℕ, ◌+◌, ◌/◌, ◌%◌, ◌≤◌, Bool, false, List, map, length, slice_index_or, eqb, bit_and, bit_xor, count_by}
+use Rattle.std.specs.Prelude.{◌≡◌, ℕ, ◌+◌, ◌/◌, ◌%◌, ◌≤◌, max, Bool, false, List, map, length, slice_index_or, eqb, bit_and, bit_xor, count_by}
 use Rattle.std.specs.Int.{bit_at}
 use Rattle.std.specs.List.{range_with_len}
 
@@ -15,10 +15,14 @@ value ws i = bit (slice_index_or ws (i / 64) 0) (i % 64)
 abbrev pub values : ℕ → List ℕ → List Bool
 values n ws = map (value ws) (range_with_len 0 n)
 
--- the words have room for n values and no word more, and no bit past the values is set
+-- how many words n values stand in: two at least, which short lists hold in themselves
+abbrev pub room : ℕ → ℕ
+room n = max 2 ((n + 63) / 64)
+
+-- the words are as many as n values stand in, and no bit past the values is set
 pub record IsClean (n : ℕ) (ws : List ℕ) : Type 0 where
   pub few : n ≤ 8192
-  pub long : length ws ≡ (n + 63) / 64
+  pub long : length ws ≡ room n
   pub past : (i : ℕ) → n ≤ i → value ws i ≡ false
 
 -- the bits of the one word that aren't in the other

@@ -1,9 +1,9 @@
-ghost use Rattle.std.specs.Prelude.{◌≡◌, ◌≢◌, ◌<◌, ◌≤◌, ◌+◌, ◌*◌, ◌↔◌, ℕ, not, false, IsTrue, ltb, length, map, bit_and, bit_or};
+ghost use Rattle.std.specs.Prelude.{◌≡◌, ◌≢◌, ◌<◌, ◌≤◌, ◌+◌, ◌*◌, ◌/◌, ◌↔◌, ℕ, not, false, IsTrue, ltb, length, map, bit_and, bit_or};
 ghost use Rattle.word_sides.specs.Words.{IsClean, bit, value, values, without, ones_in};
 ghost use lib.Lanes.{zip2};
 
 /// The word with bit `b` set or cleared.
-pub fn with_bit(word: u64, b: u32, on: bool) -> u64
+fn with_bit(word: u64, b: u32, on: bool) -> u64
     requires { b < 64 }
     ensures here { bit result b ≡ on }
     ensures elsewhere { (i : ℕ) → i < 64 → i ≢ b → bit result i ≡ bit word i }
@@ -12,13 +12,23 @@ pub fn with_bit(word: u64, b: u32, on: bool) -> u64
     if on { word | mask } else { word & !mask }
 }
 
+/// Makes the value `v` of the words another.
+#[inline]
+pub fn put_value(words: &mut [u64], v: u32, on: bool)
+    requires { v / 64 < length words.old }
+    ensures here { value words.new v ≡ on }
+    ensures elsewhere { (i : ℕ) → i ≢ v → value words.new i ≡ value words.old i }
+{
+    let j = (v / 64) as usize;
+    words[j] = with_bit(words[j], v % 64, on);
+}
+
 /// Word `j` of `n` values that are all true.
 fn full_word(n: usize, j: usize) -> u64
-    requires few { n ≤ 8192 }
-    requires within { 64 * j < n }
+    requires { j < 128 }
     ensures { (b : ℕ) → b < 64 → bit result b ≡ ltb (64 * j + b) n }
 {
-    let rest = n - 64 * j;
+    let rest = n.saturating_sub(64 * j);
     if rest < 64 {
         (1u64 << rest) - 1
     } else {
@@ -62,6 +72,16 @@ pub fn same_words(xs: &[u64], ys: &[u64]) -> bool
     ensures { IsTrue result ↔ ((i : ℕ) → value xs.now i ≡ value ys.now i) }
 {
     xs == ys
+}
+
+/// Makes the words equal to the others.
+pub fn copy_words(into: &mut [u64], other: &[u64])
+    requires { length into.old ≡ length other.now }
+    ensures { into.new ≡ other.now }
+{
+    for j in 0..into.len() {
+        into[j] = other[j];
+    }
 }
 
 pub fn join_words(into: &mut [u64], other: &[u64])

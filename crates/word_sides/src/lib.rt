@@ -1,6 +1,7 @@
 //! Lists of truth values, 64 in a word.
 #![tactic(auto)]
 
+mod held;
 mod lanes;
 mod words;
 

@@ -3,29 +3,27 @@ ghost use Rattle.word_sides.specs.Words.{bit};
 ghost use lib.Lanes.{zip2};
 
 use crate::NoRoom;
-use crate::lanes::{
-    are_zero, complement_words, count_ones, join_words, meet_words, minus_words, part_words,
-    same_words, with_bit,
-};
+use crate::held::Held;
+use crate::lanes::{are_zero, count_ones, same_words};
 use std::alloc::Global;
 use std::marker::Model;
 
-/// A list of at most 8,192 truth values, 64 in a word.
+/// A list of at most 8,192 truth values, 64 in a word. At most 128 take no allocation.
 #[derive(Debug, Drop)]
 pub struct Words {
-    len: usize,
-    words: Vec<u64>,
+    held: Held,
 }
 
 impl Model for Words {
     ghost use Rattle.std.specs.Prelude.{List, Bool};
+    ghost use Rattle.word_sides.specs.Held.{len_of, words_of};
     ghost use Rattle.word_sides.specs.Words.{values, IsClean};
 
     ghost Value = { List Bool };
 
-    ghost view = { λ s. values s.len s.words.items };
+    ghost view = { λ s. values (len_of s.held) (words_of s.held) };
 
-    ghost invariant = { λ s. IsClean s.len s.words.items };
+    ghost invariant = { λ s. IsClean (len_of s.held) (words_of s.held) };
 }
 
 impl Words {
@@ -34,74 +32,71 @@ impl Words {
         requires { n ≤ 8192 }
         ensures { IfOk result (λ s. s ≡ replicate n false) }
     {
-        let words = Vec::from_elem(alloc, 0, n.div_ceil(64))?;
-        Ok(Words { len: n, words })
+        let held = Held::zeros(alloc, n)?;
+        Ok(Words { held })
     }
 
     pub fn copy(&self, alloc: Global) -> Result<Words, NoRoom>
         ensures { IfOk result (λ s. s ≡ self.now) }
     {
-        Ok(Words {
-            len: self.len,
-            words: Vec::from_slice(alloc, self.words.as_slice())?,
-        })
+        let held = self.held.copy(alloc)?;
+        Ok(Words { held })
     }
 
     /// How many values there are.
     pub fn len(&self) -> usize
         ensures { result ≡ length self.now }
     {
-        self.len
+        self.held.len()
     }
 
     /// How many values are true.
     pub fn count(&self) -> usize
         ensures { result ≡ count_by (λ b. b) self.now }
     {
-        count_ones(&self.words)
+        count_ones(self.held.words())
     }
 
     /// Whether no value is true.
     pub fn is_empty(&self) -> bool
         ensures { IsTrue result ↔ All (λ b. b ≡ false) self.now }
     {
-        are_zero(&self.words)
+        are_zero(self.held.words())
     }
 
     /// Whether all values are true.
     pub fn is_full(&self) -> bool
         ensures { IsTrue result ↔ All (λ b. b ≡ true) self.now }
     {
-        self.count() == self.len
+        self.count() == self.len()
     }
 
     /// Whether the two lists are equal.
     pub fn same(&self, other: &Words) -> bool
         ensures { IsTrue result ↔ (self.now ≡ other.now) }
     {
-        self.len == other.len && same_words(&self.words, &other.words)
+        self.len() == other.len() && same_words(self.held.words(), other.held.words())
     }
 
     pub fn has(&self, v: u32) -> bool
         requires { v < length self.now }
         ensures { result ≡ slice_index_or self.now v false }
     {
-        (self.words[(v / 64) as usize] >> (v % 64)) & 1 == 1
+        (self.held.words()[(v / 64) as usize] >> (v % 64)) & 1 == 1
     }
 
     pub fn put(&mut self, v: u32, on: bool)
         requires { v < length self.old }
         ensures { self.new ≡ slice_set self.old v on }
     {
-        let j = (v / 64) as usize;
-        self.words[j] = with_bit(self.words[j], v % 64, on);
+        self.held.put(v, on);
     }
 
     /// Makes every value false.
     pub fn clear(&mut self)
         ensures { self.new ≡ replicate (length self.old) false }
     {
-        self.words.fill(0);
+        self.held.clear();
     }
 
     /// Makes it equal to the other list.
@@ -109,7 +104,7 @@ impl Words {
         requires { length self.old ≡ length other.now }
         ensures { self.new ≡ other.now }
     {
-        self.words.copy_from_slice(&other.words);
+        self.held.set_to(other.held.words());
     }
 
     /// Makes true what is true in either.
@@ -117,7 +112,7 @@ impl Words {
         requires { length self.old ≡ length other.now }
         ensures { self.new ≡ zip2 ◌||◌ self.old other.now }
     {
-        join_words(&mut self.words, &other.words);
+        self.held.join(other.held.words());
     }
 
     /// Keeps true what is true in both.
@@ -125,7 +120,7 @@ impl Words {
         requires { length self.old ≡ length other.now }
         ensures { self.new ≡ zip2 ◌&&◌ self.old other.now }
     {
-        meet_words(&mut self.words, &other.words);
+        self.held.meet(other.held.words());
     }
 
     /// Keeps true what isn't true in the other.
@@ -133,7 +128,7 @@ impl Words {
         requires { length self.old ≡ length other.now }
         ensures { self.new ≡ zip2 (λ x y. x && not y) self.old other.now }
     {
-        minus_words(&mut self.words, &other.words);
+        self.held.minus(other.held.words());
     }
 
     /// Keeps true in each of the two what isn't true in both.
@@ -142,14 +137,14 @@ impl Words {
         ensures mine { self.new ≡ zip2 (λ x y. x && not y) self.old other.old }
         ensures theirs { other.new ≡ zip2 (λ x y. x && not y) other.old self.old }
     {
-        part_words(&mut self.words, &mut other.words);
+        self.held.part(&mut other.held);
     }
 
     /// Turns every value round.
     pub fn complement(&mut self)
         ensures { self.new ≡ map not self.old }
     {
-        complement_words(&mut self.words, self.len);
+        self.held.complement();
     }
 
     /// Word `j`: its bit `b` is value 64`j` + `b`, and none past the end is set.
@@ -157,6 +152,6 @@ impl Words {
         requires { 64 * j < length self.now }
         ensures { (b : ℕ) → b < 64 → bit result b ≡ slice_index_or self.now (64 * j + b) false }
     {
-        self.words[j]
+        self.held.words()[j]
     }
 }

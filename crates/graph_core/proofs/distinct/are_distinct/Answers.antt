@@ -1,8 +1,7 @@
 use Rattle.std.proofs.Common.{◌≡◌, ◌∙◌, ◌+◌, ◌<◌, ◌≤◌, ℕ, length, rules, false, ap, subst, replicate}
 use Rattle.std.specs.Bool.{OnFalse}
 use Rattle.std.proofs.lemmas.List.{length-replicate}
-use Rattle.graph_core.specs.Picked.{occurrences}
-use Rattle.graph_core.specs.Picked.{mark}
+use Rattle.graph_core.specs.Picked.{occurrences, mark}
 use Rattle.graph_core.proofs.MarkLaws.{marked-apart}
 use Rattle.graph_core.proofs.distinct.are_distinct.Goals as goal
 

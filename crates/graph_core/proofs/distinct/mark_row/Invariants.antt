@@ -1,6 +1,5 @@
 use Rattle.std.proofs.Common.{◌≡◌, ℕ, ◌+◌, take}
-use Rattle.graph_core.specs.Picked.{occurrences}
-use Rattle.graph_core.specs.Picked.{mark}
+use Rattle.graph_core.specs.Picked.{occurrences, mark}
 use Rattle.graph_core.proofs.distinct.mark_row.Given as goal
 
 abbrev pub invariant-loop-j : goal.invariant-loop-j

@@ -1,4 +1,6 @@
-use Rattle.std.proofs.Common.{◌≤◌, length, sum, refl, sym, ap, ◌∙◌, arith}
+use Rattle.std.proofs.Common.{◌≤◌, false, length, sum, refl, sym, ap, ◌∙◌, true≢false, arith}
+use Rattle.std.proofs.lemmas.List.{length-replicate}
+use Rattle.graph_core.proofs.SideLaws.{has-none}
 use Rattle.std.proofs.lemmas.List.Sums.{get_or-le-sum_by, count_by-le-length}
 use Rattle.graph_core.specs.Side.{size}
 use Rattle.split_directed.specs.StarValue.{star_of}
@@ -50,3 +52,32 @@ turns-smaller c =
     let N = taken_in c.turns.witness.way M c.in_ok-count.way c.most_up_to.new.block c.args.t in
     let more = size_more M N c.next_node-u.result (c.turns.invariant.witness.long ∙ sym x.witness.long) x.kept left.outside x.new in
     omega (arith, more, x.witness.long, count_by-le-length (λ b. b) N, ap size c.take.ensures.side)
+
+pub turns-init : goal.turns-init
+turns-init c =
+    let n = length c.args.star.now.graph.names in
+    let known = c.node_count-n.ensures in
+    record {
+      witness = rw (c.in_ok-empty.ensures, known) (record { long = length-replicate n false; tight = λ h. absurd (true≢false (sym h ∙ has-none n c.args.t)); none = λ _ v. has-none n v });
+      block = rw (c.in_ok-block.ensures, known) (length-replicate n false);
+    }
+
+pub most_up_to-requires-clause-covered : goal.most_up_to-requires-clause-covered
+most_up_to-requires-clause-covered c =
+    let star = c.args.star.now in
+    let covered : IsCoveredStar (length star.graph.names) c.args.k (star_of star) = record { fits = c.known.ensures.makes.ends; into_long = star.into_long; out_long = star.out_long; enters = c.requires.enters; leaves = c.requires.leaves } in
+    rw (c.in_ok-state.ensures.star, c.in_ok-state.ensures.rows) covered
+
+pub returns-then-count-eq1 : goal.returns-then-count-eq1
+returns-then-count-eq1 c =
+    let star = c.args.star.now in
+    let n = length star.graph.names in
+    let s = star_of star in
+    let left : IsLeft s.out c.turns.witness.side c.next_node-u.result = rw (c.deref.ensures.value, c.in_ok-state.ensures.state.leaving.counts) at c.next_node-u.ensures in
+    let most : IsMostUpTo n c.args.k s c.next_node-u.result c.args.t 1 c.in_ok-count.count c.in_ok-count.way c.most_up_to.new.block = rw (c.in_ok-state.ensures.star, c.in_ok-state.ensures.rows) at c.in_ok-count.ensures.most in
+    record {
+      node = omega (arith, left.below, star.out_long);
+      arc = left.some;
+      enters = λ X tight in_u in_t. omega (arith, most.enters X tight.proper in_u in_t, tight.value, c.if-count-eq1.true);
+      leaves = λ X tight in_u in_t. omega (arith, most.leaves X tight.proper in_u in_t, tight.value, c.if-count-eq1.true);
+    }

@@ -1,21 +1,12 @@
-use Rattle.std.proofs.Common.{ap, sym, subst, ◌∙◌, length, rules}
-use Rattle.std.specs.Prelude.{bit_and}
-use Rattle.std.proofs.lemmas.List.{with_items_is, places}
-use Rattle.word_sides.specs.Words.{values, IsClean}
+use Rattle.std.proofs.Common.{ap, sym, ◌∙◌, length}
 use Rattle.word_sides.proofs.WordLaws.{as_long, clean-made, values-made, and-bitwise}
 use Rattle.word_sides.proofs.words.Words.meet.Goals as goal
-use lib.Lanes.{zip2}
 
-pub meet_words-requires : goal.meet_words-requires
-meet_words-requires c =
-    ap length c.deref_mut.ensures.value ∙ as_long _ _ _ _ _ _ c.self.view_is c.other.view_is c.requires c.self.invariant c.other.invariant ∙ sym (ap length c.deref.ensures.value)
+pub meet-requires : goal.meet-requires
+meet-requires c = as_long _ _ _ _ _ _ c.self.view_is c.other.view_is c.requires c.self.invariant c.other.invariant ∙ sym (ap length c.words.ensures)
 
 pub invariant_of-self : goal.invariant_of-self
-invariant_of-self c =
-    let is = with_items_is c.self.inside.words c.meet_words.new.into (search (rules, places)) ∙ c.meet_words.ensures ∙ ap (λ xs. zip2 bit_and xs c.deref.result.now) c.deref_mut.ensures.value ∙ ap (zip2 bit_and c.self.inside.words.items) c.deref.ensures.value in
-    subst (IsClean c.self.inside.len) (sym is) (clean-made _ _ _ _ _ _ c.self.view_is c.other.view_is c.requires _ _ and-bitwise c.self.invariant c.other.invariant)
+invariant_of-self c = clean-made _ _ _ _ _ _ c.self.view_is c.other.view_is c.requires _ _ and-bitwise c.self.invariant c.other.invariant _ _ _ c.meet.ensures.len c.meet.ensures.words c.words.ensures
 
 pub returns : goal.returns
-returns c =
-    let is = with_items_is c.self.inside.words c.meet_words.new.into (search (rules, places)) ∙ c.meet_words.ensures ∙ ap (λ xs. zip2 bit_and xs c.deref.result.now) c.deref_mut.ensures.value ∙ ap (zip2 bit_and c.self.inside.words.items) c.deref.ensures.value in
-    ap (values c.self.inside.len) is ∙ values-made _ _ _ _ _ _ c.self.view_is c.other.view_is c.requires _ _ and-bitwise c.self.invariant c.other.invariant
+returns c = values-made _ _ _ _ _ _ c.self.view_is c.other.view_is c.requires _ _ and-bitwise c.self.invariant c.other.invariant _ _ _ c.meet.ensures.len c.meet.ensures.words c.words.ensures

@@ -1,27 +1,25 @@
-use Rattle.std.proofs.Common.{◌<◌, ◌/◌, ◌∙◌, ap, length, set, arith}
-use Rattle.word_sides.specs.Words.{bit}
-use Rattle.word_sides.proofs.WordLaws.{length-values, values-put, clean-put, word-at}
+use Rattle.std.proofs.Common.{◌<◌, ◌∙◌, ap, sym, subst, length, set, arith}
+use Rattle.word_sides.specs.Held.{len_of, words_of}
+use Rattle.word_sides.specs.Words.{values, IsClean}
+use Rattle.word_sides.proofs.WordLaws.{length-values, values-put, clean-put}
 use Rattle.word_sides.proofs.words.Words.put.Goals as goal
 
-pub index-requires : goal.index-requires
-index-requires c = omega (arith, length-values c.self.inside.len c.self.inside.words.items, ap length c.self.view_is, c.self.invariant.long)
-
-pub index_mut-requires : goal.index_mut-requires
-index_mut-requires c = omega (arith, length-values c.self.inside.len c.self.inside.words.items, ap length c.self.view_is, c.self.invariant.long)
+pub put-requires : goal.put-requires
+put-requires c = omega (arith, length-values (len_of c.self.inside.held) (words_of c.self.inside.held), ap length c.self.view_is, c.self.invariant.long)
 
 pub invariant_of-self : goal.invariant_of-self
 invariant_of-self c =
-    let ws = c.self.inside.words.items in
-    let long : c.args.v < c.self.inside.len = omega (arith, length-values c.self.inside.len ws, ap length c.self.view_is) in
-    let within : c.args.v / 64 < length ws = omega (arith, c.self.invariant.long) in
-    clean-put c.self.inside.len ws c.args.v c.with_bit.result c.args.on c.self.invariant long c.with_bit.ensures.here
-    (λ i l ne. c.with_bit.ensures.elsewhere i l ne ∙ ap (λ w. bit w i) (word-at ws (c.args.v / 64) c.index.result.now within c.index.ensures))
+    let n = len_of c.self.inside.held in
+    let ws = words_of c.self.inside.held in
+    let within : c.args.v < n = omega (arith, length-values n ws, ap length c.self.view_is) in
+    subst (λ k. IsClean k (words_of c.put.new.self)) (sym c.put.ensures.len)
+    (clean-put n ws (words_of c.put.new.self) c.args.v c.args.on c.self.invariant within c.put.ensures.long c.put.ensures.here c.put.ensures.elsewhere)
 
 pub returns : goal.returns
 returns c =
-    let ws = c.self.inside.words.items in
-    let long : c.args.v < c.self.inside.len = omega (arith, length-values c.self.inside.len ws, ap length c.self.view_is) in
-    let within : c.args.v / 64 < length ws = omega (arith, c.self.invariant.long) in
-    values-put c.self.inside.len ws c.args.v c.with_bit.result c.args.on c.self.invariant long c.with_bit.ensures.here
-    (λ i l ne. c.with_bit.ensures.elsewhere i l ne ∙ ap (λ w. bit w i) (word-at ws (c.args.v / 64) c.index.result.now within c.index.ensures))
+    let n = len_of c.self.inside.held in
+    let ws = words_of c.self.inside.held in
+    let within : c.args.v < n = omega (arith, length-values n ws, ap length c.self.view_is) in
+    ap (λ k. values k (words_of c.put.new.self)) c.put.ensures.len
+    ∙ values-put n ws (words_of c.put.new.self) c.args.v c.args.on c.self.invariant within c.put.ensures.long c.put.ensures.here c.put.ensures.elsewhere
     ∙ ap (λ X. set X c.args.v c.args.on) c.self.view_is

@@ -1,16 +1,19 @@
-use Rattle.std.proofs.Common.{◌+◌, ◌*◌, ◌<◌, ◌∙◌, ap, sym, false, length, get_or, arith}
+use Rattle.std.proofs.Common.{◌+◌, ◌*◌, ◌∙◌, ap, sym, false, length, get_or, arith}
+use Rattle.word_sides.specs.Held.{len_of, words_of}
 use Rattle.word_sides.specs.Words.{bit}
-use Rattle.word_sides.proofs.WordLaws.{length-values, at-clean, value-word, word-at}
+use Rattle.word_sides.proofs.WordLaws.{length-values, at-clean, value-word}
 use Rattle.word_sides.proofs.words.Words.word.Goals as goal
 
-pub index-requires : goal.index-requires
-index-requires c = omega (arith, length-values c.self.inside.len c.self.inside.words.items, ap length c.self.view_is, c.self.invariant.long)
+pub bounds-words-j : goal.bounds-words-j
+bounds-words-j c = omega (arith, length-values (len_of c.self.inside.held) (words_of c.self.inside.held), ap length c.self.view_is, c.self.invariant.long, ap length c.words.ensures)
+
+pub offset_bounds-words-j : goal.offset_bounds-words-j
+offset_bounds-words-j c = record { fits = omega (arith, length-values (len_of c.self.inside.held) (words_of c.self.inside.held), ap length c.self.view_is, c.self.invariant.few) }
 
 pub returns : goal.returns
 returns c b l =
-    let ws = c.self.inside.words.items in
-    let within : c.args.j < length ws = omega (arith, length-values c.self.inside.len ws, ap length c.self.view_is, c.self.invariant.long) in
-    ap (λ w. bit w b) (word-at ws c.args.j c.index.result.now within c.index.ensures)
+    let ws = words_of c.self.inside.held in
+    ap (λ xs. bit (get_or xs c.args.j 0) b) c.words.ensures
     ∙ sym (value-word ws c.args.j b l)
-    ∙ sym (at-clean c.self.inside.len ws c.self.invariant (64 * c.args.j + b))
+    ∙ sym (at-clean (len_of c.self.inside.held) ws c.self.invariant (64 * c.args.j + b))
     ∙ ap (λ X. get_or X (64 * c.args.j + b) false) c.self.view_is

@@ -1,4 +1,0 @@
-use Rattle.library_tests.proofs.forests.grows.Given as goal
-
-abbrev pub invariant-loop-first : goal.invariant-loop-first
-invariant-loop-first g l = g.M.Matroid.keeps l.matroid l.set
