@@ -12,8 +12,8 @@ build() {
     (: >>"$place/lock") 2>/dev/null || { say "$place can't be written"; return 1; }
     command -v flock >/dev/null || { say "the command flock was not found"; return 1; }
     exec 9>"$place/lock"
-    # The lock is let go when the last process that holds it ends, however it ends.
-    flock -n 9 || { say "another call builds the program: waiting for it"; flock 9; }
+    # The lock is let go when the last process that holds it ends, however it ends: a moment after an interrupt, too.
+    flock -w 1 9 || { say "another call builds the program: waiting for it"; flock 9; }
     is_current || is_the_same || build_anew "$began" || { exec 9>&-; return 1; }
     exec 9>&-
 }

@@ -87,11 +87,17 @@ end_tree() {
     rm -rf "${work:?}/$1"
 }
 
-# Starts the proof of a crate. Its end is told on 8. One proof at a time goes before the others, whose memory two jobs each
-# keep small.
+# The place of a crate in the list, which the longest way begins.
+place_of() { awk -v name="$1" '$1 == name { print NR }' "$work/list"; }
+
+# Whether the way of a crate is the longest of those that run.
+is_front() { [ -z "$front" ] || [ "$(place_of "$1")" -lt "$(place_of "$front")" ]; }
+
+# Starts the proof of a crate. Its end is told on 8. The one with the longest way goes before the others, whose memory two
+# jobs each keep small.
 start() {
     jobs=2 later=10
-    if [ -z "$front" ]; then front=$1 jobs=$lanes later=0; fi
+    if is_front "$1"; then front=$1 jobs=$lanes later=0; fi
     [ "$jobs" -le "$lanes" ] || jobs=$lanes
     running="$running $1"
     make_tree "$@" || { echo "$1 70" >&8; return; }

@@ -5,6 +5,7 @@ use Rattle.std.proofs.lemmas.List.Elements.{All-map, All-weaker}
 use Rattle.graph_core.specs.Connected.{IsArcConnected}
 use Rattle.graph_core.specs.Graph.{GraphValue, Fits, IsWithinSize, line_of, lines_of}
 use Rattle.graph_core.proofs.Counting.{All-both, lack-is}
+use Rattle.graph_core.proofs.PairLaws.{apart_all}
 use Rattle.cut_fn.specs.Covered.{IsTight}
 use Rattle.cut_fn.proofs.Families.{tight_with}
 use Rattle.cut_fn.specs.declared.stars.ArcStar.{ArcStar}
@@ -13,8 +14,7 @@ use Rattle.problem_defs.specs.Ways.{count_for}
 use Rattle.problem_defs.specs.declared.cert.Way.{Way}
 use Rattle.problem_defs.specs.declared.cert.Way.TheVariants.{Entering, Leaving}
 use Rattle.split_directed.specs.Pairs.{AreHeadsTight, AreTailsTight, SplitInto}
-use Rattle.split_directed.specs.StarValue.{star_of}
-use Rattle.split_directed.proofs.WrittenPairs.{apart_all}
+use Rattle.cut_fn.specs.Stars.{star_of}
 use Rattle.star_net.specs.TightArcStar.{counts_for, IsTightArcStar}
 use Rattle.star_net.specs.TightFamily.{with_counts, IsTightFamily}
 use Rattle.star_net.specs.declared.arc_star.TightArcStar.{TightArcStar}

@@ -1,4 +1,5 @@
 ghost use Rattle.std.specs.Prelude.{◌≡◌, ◌≤◌, true, length, All, Contains, IfOk};
+ghost use Rattle.graph_core.specs.Limits.{side_room};
 ghost use Rattle.graph_core.specs.Side.{has};
 ghost use Rattle.problem_defs.specs.Certified.{IsCertified};
 ghost use Rattle.augment_edges.specs.Row.{AreInRow};
@@ -10,7 +11,7 @@ use std::alloc::Global;
 
 /// A node of a side.
 fn node_of(side: &Side) -> u32
-    requires long { length side.now ≤ 8192 }
+    requires long { length side.now ≤ side_room }
     requires some { Contains side.now true }
     ensures { has side.now result ≡ true }
 {
@@ -24,7 +25,7 @@ fn node_of(side: &Side) -> u32
 
 /// Pairs that join one class after another in a row.
 fn row_of(alloc: Global, classes: &[Side]) -> Result<Pairs, NoMemory>
-    requires { All (λ C. (length C ≤ 8192) × Contains C true) classes.now }
+    requires { All (λ C. (length C ≤ side_room) × Contains C true) classes.now }
     ensures { IfOk result (AreInRow classes.now) }
 {
     let mut pairs = Pairs::new(alloc);

@@ -8,7 +8,7 @@ use Rattle.graph_core.specs.Side.{has, size, IsOnly}
 use Rattle.graph_core.proofs.PutLaws.{size-only}
 use Rattle.graph_core.proofs.Counting.{weight}
 use Rattle.graph_core.proofs.FamilyLaws.{count_by-le}
-use Rattle.problem_defs.specs.Pairs.{pair_at}
+use Rattle.graph_core.specs.Pairs.{pair_at}
 use Rattle.certificate_checker.specs.TreeSides.{inside, AreUncrossed, AddsOther, IsGrown, IsReach}
 
 pub grown-same : (pairs : List (ℕ × ℕ × ℕ)) (X : List Bool) → IsGrown pairs X X

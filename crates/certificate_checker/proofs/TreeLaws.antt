@@ -17,7 +17,7 @@ use Rattle.graph_core.proofs.Counting.{weight, count_by-fails}
 use Rattle.graph_core.proofs.FamilyLaws.{size-nonempty}
 use Rattle.problem_defs.specs.CutTree.{tree_lines, IsSpanningTree, IsLeastCut}
 use Rattle.problem_defs.proofs.TreeLines.{pair_line, length-tree, tree-line, induced-tree, degree-tree}
-use Rattle.problem_defs.specs.Pairs.{pair_at}
+use Rattle.graph_core.specs.Pairs.{pair_at}
 use Rattle.certificate_checker.specs.TreeSides.{AreUncrossed, IsReach}
 use Rattle.flow_cuts.specs.NodeCuts.{NoneIsLess}
 

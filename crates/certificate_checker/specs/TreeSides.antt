@@ -1,7 +1,7 @@
 -- The sides that pairs of nodes cut, as those of a tree do. No public clause cites it.
 use Rattle.std.specs.Prelude.{◌≡◌, ℕ, ◌+◌, ◌≤◌, Bool, true, false, ◌&&◌, List, length, remove, count_by, All}
 use Rattle.graph_core.specs.Side.{has, size}
-use Rattle.problem_defs.specs.Pairs.{pair_at}
+use Rattle.graph_core.specs.Pairs.{pair_at}
 
 -- how many pairs have both nodes in X
 abbrev pub inside : List Bool → List (ℕ × ℕ × ℕ) → ℕ

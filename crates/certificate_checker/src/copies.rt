@@ -1,4 +1,5 @@
 ghost use Rattle.std.specs.Prelude.{◌≡◌, ◌+◌, ◌*◌, ◌<◌, ◌≤◌, ◌^◌, ℕ, Bool, List, length, All, IfOk};
+ghost use Rattle.graph_core.specs.Limits.{node_room};
 ghost use Rattle.graph_core.specs.Side.{has};
 ghost use Rattle.flow_cuts.specs.Network.{across};
 ghost use Rattle.certificate_checker.specs.Copies.{Counts, CountsMore, Writes};
@@ -14,14 +15,14 @@ pub struct Copies {
     pub n: u32,
     pub most: u32,
     pub table: Vec<u32>,
-    pub ghost nodes: { n ≤ 4096 },
+    pub ghost nodes: { n ≤ node_room },
     pub ghost long: { length table.items ≡ n * n },
 }
 
 impl Copies {
     /// No line yet.
     pub fn new(alloc: Global, n: u32, most: u32) -> Result<Copies, NoMemory>
-        requires { n ≤ 4096 }
+        requires { n ≤ node_room }
         ensures n { IfOk result (λ copies. copies.n ≡ n) }
         ensures most { IfOk result (λ copies. copies.most ≡ most) }
         ensures none { IfOk result (λ copies. Counts n most copies.table.items (λ _. 0)) }

@@ -5,7 +5,7 @@ ghost use Rattle.problem_defs.specs.Claims.{claims};
 ghost use Rattle.problem_defs.specs.declared.ask.Ask.TheVariants as asks;
 ghost use Rattle.problem_defs.specs.declared.cert.Body.TheVariants as bodies;
 ghost use Rattle.certificate_checker.specs.FirstLack.{FirstLack};
-ghost use Rattle.problem_defs.specs.Pairs.{pair_at, AreIn};
+ghost use Rattle.graph_core.specs.Pairs.{pair_at, AreIn};
 
 use crate::reach::reach;
 use crate::rejection::Rejection;

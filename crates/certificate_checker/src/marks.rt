@@ -1,6 +1,7 @@
 ghost use Rattle.std.specs.Prelude.{◌≡◌, ℕ, ◌+◌, ◌<◌, ◌≤◌, ◌↔◌, true, All, length, IsTrue, IfOk};
 ghost use Rattle.std.specs.List.{concat};
 ghost use Rattle.std.specs.Bool.{OnTrue, OnFalse};
+ghost use Rattle.graph_core.specs.Limits.{line_room};
 ghost use Rattle.graph_core.specs.Picked.{occurrences, mark};
 ghost use Rattle.graph_core.specs.Walks.{AreDisjoint};
 ghost use Rattle.problem_defs.specs.Shaped.{AreRows};
@@ -24,7 +25,7 @@ fn mark_rows(marks: &mut [bool], rows: &[Numbers]) -> bool
 
 /// Whether no number stands twice in all rows together.
 pub fn are_disjoint(alloc: Global, limit: usize, rows: &NumberRows) -> Result<bool, NoMemory>
-    requires few { limit ≤ 65536 }
+    requires few { limit ≤ line_room }
     requires below { AreRows limit rows.now }
     ensures { IfOk result (λ disjoint. IsTrue disjoint ↔ AreDisjoint rows.now) }
 {
@@ -41,7 +42,7 @@ fn are_all_marked(marks: &[bool]) -> bool
 
 /// Whether each number below the limit stands exactly once in all rows together.
 pub fn cover_once(alloc: Global, limit: usize, rows: &NumberRows) -> Result<bool, NoMemory>
-    requires few { limit ≤ 65536 }
+    requires few { limit ≤ line_room }
     requires below { AreRows limit rows.now }
     ensures { IfOk result (λ once. IsTrue once ↔ ((j : ℕ) → j < limit → occurrences j (concat rows.now) ≡ 1)) }
 {

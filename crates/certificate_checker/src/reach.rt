@@ -1,7 +1,7 @@
 ghost use Rattle.std.specs.Prelude.{◌≡◌, ℕ, ◌+◌, ◌<◌, ◌≤◌, ◌++◌, true, false, All, length};
 ghost use Rattle.std.specs.Bool.{OnTrue, OnFalse};
 ghost use Rattle.graph_core.specs.Side.{has, size};
-ghost use Rattle.problem_defs.specs.Pairs.{AreIn};
+ghost use Rattle.graph_core.specs.Pairs.{AreIn};
 ghost use Rattle.certificate_checker.specs.TreeSides.{AddsOther, AreUncrossed, IsGrown, IsReach};
 
 use graph_core::Side;

@@ -26,7 +26,7 @@ use Rattle.certificate_text.specs.Valid.{IsValid, ValidAll}
 use Rattle.certificate_text.specs.Forms.{has_form}
 use Rattle.certificate_text.specs.Lines.{lines, body_lines}
 use Rattle.problem_defs.specs.Shaped.{IsShaped}
-use Rattle.certificate_text.specs.Accepts.{SomeRow, Accepts}
+use Rattle.certificate_text.specs.Accepts.{SomeRow, EachRow, Accepts}
 use Rattle.certificate_text.specs.MayBegin.{GoesOn, MayBegin, BeginsLines}
 use Rattle.certificate_text.proofs.TakingLaws.{take_lines-append, fill, CanFill, completed}
 use Rattle.certificate_text.proofs.FormLaws.{valid-join, kind-is}
@@ -79,10 +79,6 @@ pub record Fillable (g : GraphValue) (left : List Slot) : Type 0 where
 fill-tail : (g : GraphValue) (s : Slot) (left : List Slot) → ValidAll g (fill (sample g) (s ∷ left)) → ValidAll g (fill (sample g) left)
 fill-tail g (Must f place) left v = v.1
 fill-tail g (May f) left v = v
-
-abbrev EachRow : (List Piece → Type 0) → List (List Piece) → Type 0
-EachRow P [] = Unit {0}
-EachRow P (row ∷ rows) = P row × EachRow P rows
 
 pub record Completed (g : GraphValue) (rows : List (List Piece)) (xs : List CertLine) : Type 0 where
   pub more : List CertLine

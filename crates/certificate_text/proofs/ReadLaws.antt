@@ -18,7 +18,7 @@ use Rattle.certificate_text.specs.Words.{spelled}
 use Rattle.certificate_text.specs.Valid.{IsValid}
 use Rattle.certificate_text.specs.Forms.{has_form}
 use Rattle.certificate_text.specs.Lines.{body_lines}
-use Rattle.certificate_text.specs.Accepts.{SomeRow, Accepts}
+use Rattle.certificate_text.specs.Accepts.{SomeRow, EachRow, Accepts}
 use Rattle.certificate_text.specs.MayBegin.{GoesOn, is_end, NoEnd}
 use Rattle.certificate_text.specs.Text.{unlines, text}
 use Rattle.certificate_text.specs.BadLine.{whole_lines, IsBad}
@@ -31,7 +31,7 @@ use Rattle.certificate_text.proofs.FormLaws.{valid-join}
 use Rattle.certificate_text.proofs.RowLaws.{has-body, body-back}
 use Rattle.certificate_text.proofs.SpellLaws.{spelled-same}
 use Rattle.certificate_text.proofs.BeginLaws.{take_lines-tail}
-use Rattle.certificate_text.proofs.EndLaws.{EndsLast, ends-tail, end-is-last, AllIn, rows-end}
+use Rattle.certificate_text.proofs.EndLaws.{EndsLast, ends-tail, end-is-last, rows-end}
 use Rattle.certificate_text.proofs.BadLaws.{is-bad}
 
 -- ---- one line more
@@ -64,16 +64,12 @@ unlines-push g xs x bytes rest l more split cut same =
 
 -- ---- rows as slots
 
-abbrev SomeIn : (List Slot → Type 0) → List (List Slot) → Type 0
-SomeIn P [] = ⊥
-SomeIn P (row ∷ rows) = P row ⊎ SomeIn P rows
-
-to-slots : (P : List Slot → Type 0) (m : ℕ) (rs : List (List Piece)) → SomeRow (λ row. P (slots m row)) rs → SomeIn P (map (slots m) rs)
+to-slots : (P : List Slot → Type 0) (m : ℕ) (rs : List (List Piece)) → SomeRow (λ row. P (slots m row)) rs → SomeRow P (map (slots m) rs)
 to-slots P m [] some = some
 to-slots P m (row ∷ rs) (inl here) = inl here
 to-slots P m (row ∷ rs) (inr more) = inr (to-slots P m rs more)
 
-from-slots : (P : List Slot → Type 0) (m : ℕ) (rs : List (List Piece)) → SomeIn P (map (slots m) rs) → SomeRow (λ row. P (slots m row)) rs
+from-slots : (P : List Slot → Type 0) (m : ℕ) (rs : List (List Piece)) → SomeRow P (map (slots m) rs) → SomeRow (λ row. P (slots m row)) rs
 from-slots P m [] some = some
 from-slots P m (row ∷ rs) (inl here) = inl here
 from-slots P m (row ∷ rs) (inr more) = inr (from-slots P m rs more)
@@ -83,9 +79,9 @@ abbrev Goes : HasForm → List CertLine → List Slot → Type 0
 Goes f xs row = (left : List Slot) × (take_lines f row xs ≡ Some left)
 
 some-goes : (g : GraphValue) (a : Ask) (first : List Slot) (second : Option (List Slot)) (xs : List CertLine) → AreSlotsOf g a first second → GoesOn g a xs → take_lines (has_form g) first xs ≡ None → option_and_then (λ row. take_lines (has_form g) row xs) second ≡ None → ⊥
-some-goes g a first second xs are goes none none' = by second none' (subst (SomeIn (Goes (has_form g) xs)) are (to-slots (Goes (has_form g) xs) (length g.lines) (rows a) goes))
+some-goes g a first second xs are goes none none' = by second none' (subst (SomeRow (Goes (has_form g) xs)) are (to-slots (Goes (has_form g) xs) (length g.lines) (rows a) goes))
   where
-    by : (second : Option (List Slot)) → option_and_then (λ row. take_lines (has_form g) row xs) second ≡ None → SomeIn (Goes (has_form g) xs) (first ∷ option_list second) → ⊥
+    by : (second : Option (List Slot)) → option_and_then (λ row. take_lines (has_form g) row xs) second ≡ None → SomeRow (Goes (has_form g) xs) (first ∷ option_list second) → ⊥
     by None n (inl (left, e)) = cc
     by None n (inr e) = e
     by (Some row) n (inl (left, e)) = cc
@@ -93,22 +89,22 @@ some-goes g a first second xs are goes none none' = by second none' (subst (Some
     by (Some row) n (inr (inr e)) = e
 
 goes-some : (g : GraphValue) (a : Ask) (first : List Slot) (second : Option (List Slot)) (xs : List CertLine) → AreSlotsOf g a first second → ((take_lines (has_form g) first xs ≡ None) × (option_and_then (λ row. take_lines (has_form g) row xs) second ≡ None) → ⊥) → GoesOn g a xs
-goes-some g a first second xs are not-lost = from-slots (Goes (has_form g) xs) (length g.lines) (rows a) (subst (SomeIn (Goes (has_form g) xs)) (sym are) (by second (take_lines (has_form g) first xs) refl not-lost))
+goes-some g a first second xs are not-lost = from-slots (Goes (has_form g) xs) (length g.lines) (rows a) (subst (SomeRow (Goes (has_form g) xs)) (sym are) (by second (take_lines (has_form g) first xs) refl not-lost))
   where
-    other : (second : Option (List Slot)) (o : Option (List Slot)) → option_and_then (λ row. take_lines (has_form g) row xs) second ≡ o → (o ≡ None → ⊥) → SomeIn (Goes (has_form g) xs) (option_list second)
+    other : (second : Option (List Slot)) (o : Option (List Slot)) → option_and_then (λ row. take_lines (has_form g) row xs) second ≡ o → (o ≡ None → ⊥) → SomeRow (Goes (has_form g) xs) (option_list second)
     other None None t nope = absurd (nope refl)
     other None (Some left) t nope = cc
     other (Some row) None t nope = absurd (nope refl)
     other (Some row) (Some left) t nope = inl (left, t)
 
-    by : (second : Option (List Slot)) (o : Option (List Slot)) → take_lines (has_form g) first xs ≡ o → ((o ≡ None) × (option_and_then (λ row. take_lines (has_form g) row xs) second ≡ None) → ⊥) → SomeIn (Goes (has_form g) xs) (first ∷ option_list second)
+    by : (second : Option (List Slot)) (o : Option (List Slot)) → take_lines (has_form g) first xs ≡ o → ((o ≡ None) × (option_and_then (λ row. take_lines (has_form g) row xs) second ≡ None) → ⊥) → SomeRow (Goes (has_form g) xs) (first ∷ option_list second)
     by second (Some left) t nope = inl (left, t)
     by second None t nope = inr (other second (option_and_then (λ row. take_lines (has_form g) row xs) second) refl (λ n. nope (refl, n)))
 
 accepts-done : (g : GraphValue) (a : Ask) (first : List Slot) (second : Option (List Slot)) (xs : List CertLine) → AreSlotsOf g a first second → (take_lines (has_form g) first xs ≡ Some []) ⊎ (option_and_then (λ row. take_lines (has_form g) row xs) second ≡ Some []) → Accepts g a xs
-accepts-done g a first second xs are done = from-slots (λ row. take_lines (has_form g) row xs ≡ Some []) (length g.lines) (rows a) (subst (SomeIn (λ row. take_lines (has_form g) row xs ≡ Some [])) (sym are) (by second done))
+accepts-done g a first second xs are done = from-slots (λ row. take_lines (has_form g) row xs ≡ Some []) (length g.lines) (rows a) (subst (SomeRow (λ row. take_lines (has_form g) row xs ≡ Some [])) (sym are) (by second done))
   where
-    by : (second : Option (List Slot)) → (take_lines (has_form g) first xs ≡ Some []) ⊎ (option_and_then (λ row. take_lines (has_form g) row xs) second ≡ Some []) → SomeIn (λ row. take_lines (has_form g) row xs ≡ Some []) (first ∷ option_list second)
+    by : (second : Option (List Slot)) → (take_lines (has_form g) first xs ≡ Some []) ⊎ (option_and_then (λ row. take_lines (has_form g) row xs) second ≡ Some []) → SomeRow (λ row. take_lines (has_form g) row xs ≡ Some []) (first ∷ option_list second)
     by second (inl e) = inl e
     by None (inr e) = cc
     by (Some row) (inr e) = inr (inl e)
@@ -152,7 +148,7 @@ ends-there g (Some left) after ends e = end-is-last g left after (ends left refl
 place-ends : (g : GraphValue) (row : List Slot) (zs : List CertLine) → EndsLast g row → (left : List Slot) → take_lines (has_form g) row zs ≡ Some left → EndsLast g left
 place-ends g row zs ends left e = take_lines-tail (EndsLast g) (has_form g) (ends-tail g) row left zs ends e
 
-places-end : (g : GraphValue) (second : Option (List Slot)) (zs : List CertLine) → AllIn (EndsLast g) (option_list second) → (left : List Slot) → option_and_then (λ row. take_lines (has_form g) row zs) second ≡ Some left → EndsLast g left
+places-end : (g : GraphValue) (second : Option (List Slot)) (zs : List CertLine) → EachRow (EndsLast g) (option_list second) → (left : List Slot) → option_and_then (λ row. take_lines (has_form g) row zs) second ≡ Some left → EndsLast g left
 places-end g None zs ends left e = cc
 places-end g (Some row) zs ends left e = place-ends g row zs ends.0 left e
 
@@ -194,7 +190,7 @@ pub reading-next : (g : GraphValue) (bytes : List ℕ) (a : Ask) (first : List S
     → ((option_and_then (λ left. take_line (has_form g) left x) one ≡ None) × (option_and_then (λ left. take_line (has_form g) left x) two ≡ None) → ⊥)
     → Reading g bytes a first second more (count + 1) (option_and_then (λ left. take_line (has_form g) left x) one) (option_and_then (λ left. take_line (has_form g) left x) two) (with_line content x)
 reading-next g bytes a first second rest count one two content l more x are r cut valid same undone going =
-    let ends = subst (AllIn (EndsLast g)) are (rows-end g a) in
+    let ends = subst (EachRow (EndsLast g)) are (rows-end g a) in
     let one' : take_lines (has_form g) first (r.lines ++ x ∷ []) ≡ option_and_then (λ left. take_line (has_form g) left x) one = take_lines-push (has_form g) first r.lines x ∙ ap (option_and_then (λ left. take_line (has_form g) left x)) (sym r.one_is) in
     let two' : option_and_then (λ row. take_lines (has_form g) row (r.lines ++ x ∷ [])) second ≡ option_and_then (λ left. take_line (has_form g) left x) two = take_lines-push_option (has_form g) second r.lines x ∙ ap (option_and_then (λ left. take_line (has_form g) left x)) (sym r.two_is) in
     let unended = not-end g one two x (λ left e. place-ends g first r.lines ends.0 left (sym r.one_is ∙ e)) (λ left e. places-end g second r.lines ends.1 left (sym r.two_is ∙ e)) undone going in

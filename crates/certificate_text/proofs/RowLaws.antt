@@ -18,7 +18,7 @@ use Rattle.certificate_text.specs.Valid.{ValidAll}
 use Rattle.certificate_text.specs.Forms.{has_form}
 use Rattle.certificate_text.specs.Lines.{body_lines, lines}
 use Rattle.certificate_text.specs.Gather.{nothing, gather, body_of}
-use Rattle.certificate_text.specs.Accepts.{SomeRow, Accepts, HasBody}
+use Rattle.certificate_text.specs.Accepts.{SomeRow, EachRow, Accepts, HasBody}
 use Rattle.certificate_text.proofs.RowTests.{is_row, are_rows, rows-are}
 use Rattle.certificate_text.proofs.HeldRows.{Held, held_lines, IsValidHeld, Taken, rows-read, taken-by, held-taken}
 use Rattle.certificate_text.proofs.GatherLaws.{row_content, gather-row, heads-back}
@@ -77,10 +77,6 @@ lines-same g a b is wa wb e =
     λ i. record { ask = ask i; body = body i }
 
 -- ---- from lines to a body
-
-abbrev EachRow : (List Piece → Type 0) → List (List Piece) → Type 0
-EachRow P [] = Unit {0}
-EachRow P (row ∷ rows) = P row × EachRow P rows
 
 -- how a body is made of what a row holds
 abbrev Makes : GraphValue → Ask → List CertLine → List Piece → Type 0

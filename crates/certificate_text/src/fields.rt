@@ -5,6 +5,7 @@ ghost use Rattle.certificate_text.specs.Finds.{Finds};
 ghost use Rattle.certificate_text.specs.SideRead.{IsMissing, IsNext};
 ghost use Rattle.certificate_text.specs.WordsLeft.{words_left};
 ghost use Rattle.certificate_text.specs.Words as words_of;
+ghost use Rattle.graph_core.specs.Limits.{line_room};
 
 use crate::decimals::number;
 use crate::keyword::kind_of;
@@ -132,7 +133,7 @@ pub fn only_weighted(graph: &Graph, words: WordsLeft<'_>) -> Option<(u32, u32, u
 
 // The line that the word numbers, from 1 to m.
 fn line_number(word: &[u8], m: usize) -> Option<u32>
-    requires { m ≤ 65536 }
+    requires { m ≤ line_room }
     ensures { Finds (λ j. j < m) (λ j. decimal (j + 1)) word.now result }
 {
     let Some(n) = number(word) else {
@@ -165,7 +166,7 @@ pub fn only_k(words: WordsLeft<'_>) -> Option<u32>
 
 /// The lines that the words left number.
 pub fn numbers(alloc: Global, m: usize, words: WordsLeft<'_>) -> Result<Option<Numbers>, NoMemory>
-    requires { m ≤ 65536 }
+    requires { m ≤ line_room }
     ensures { IfOk result (Finds (All (λ j. j < m)) words_of.numbers (words_left words.entry)) }
 {
     let mut numbers = Numbers::new(alloc);

@@ -1,6 +1,7 @@
 ghost use Rattle.std.specs.Prelude.{◌≡◌, ◌++◌, ◌∷◌, [], ◌<◌, ◌≤◌, All, OnOk, length, codes};
 ghost use Rattle.std.specs.List.{flat_map, join_with_byte};
 ghost use Rattle.std.specs.Fmt.{decimal};
+ghost use Rattle.graph_core.specs.Limits.{line_room};
 ghost use Rattle.graph_core.specs.Graph.{Fits};
 ghost use Rattle.certificate_text.specs.Words as words_of;
 ghost use Rattle.certificate_text.specs.Text.{line_text, spelling};
@@ -50,7 +51,7 @@ pub fn push_value(text: &mut Vec<u8>, value: u64) -> Result<(), NoMemory>
 
 /// A line of a word and of line numbers.
 pub fn push_numbers_line(text: &mut Vec<u8>, word: &[u8], numbers: &Numbers) -> Result<(), NoMemory>
-    requires { All (λ j. j < 65536) numbers.now }
+    requires { All (λ j. j < line_room) numbers.now }
     ensures { OnOk result (text.new.items ≡ text.old.items ++ words_of.numbers_line word.now numbers.now) }
 {
     push_text(text, word)?;
@@ -62,7 +63,7 @@ pub fn push_numbers_line(text: &mut Vec<u8>, word: &[u8], numbers: &Numbers) -> 
 
 /// A line of the word for each row.
 pub fn push_rows(text: &mut Vec<u8>, word: &[u8], rows: &NumberRows) -> Result<(), NoMemory>
-    requires { All (All (λ j. j < 65536)) rows.now }
+    requires { All (All (λ j. j < line_room)) rows.now }
     ensures { OnOk result (text.new.items ≡ text.old.items ++ flat_map (words_of.numbers_line word.now) rows.now) }
 {
     for at in 0..rows.len() {

@@ -1,4 +1,5 @@
 ghost use Rattle.std.specs.Prelude.{◌≡◌, ◌+◌, ◌*◌, ◌≤◌, ◌<◌, length, sum_by, IfOk};
+ghost use Rattle.graph_core.specs.Limits.{most_nodes};
 ghost use Rattle.graph_core.specs.Graph.{IsWithinSize};
 ghost use Rattle.connect_gen.specs.Generated.{node_name, node_names, generated_lines, generated};
 
@@ -11,7 +12,7 @@ use std::alloc::Global;
 /// It is connected, and in a digraph each arc goes from an earlier node to a later one.
 pub fn make(alloc: Global, kind: Kind, nodes: u32, number: u32) -> Result<Graph, NoMemory>
     requires some { 2 ≤ nodes }
-    requires few { nodes ≤ 128 }
+    requires few { nodes ≤ most_nodes }
     ensures graph { IfOk result (λ graph. graph ≡ generated kind nodes number) }
     ensures nodes { IfOk result (λ graph. length graph.names ≡ nodes) }
     ensures costs { IfOk result (λ graph. sum_by (λ line. line.cost) graph.lines + 1 ≡ 4 * nodes) }
@@ -23,7 +24,7 @@ pub fn make(alloc: Global, kind: Kind, nodes: u32, number: u32) -> Result<Graph,
 }
 
 fn node_names(alloc: Global, nodes: u32) -> Result<Vec<Name>, NoMemory>
-    requires { nodes ≤ 128 }
+    requires { nodes ≤ most_nodes }
     ensures { IfOk result (λ names. names.items ≡ node_names nodes) }
 {
     let mut names = Vec::with_capacity(alloc, nodes as usize)?;
@@ -34,7 +35,7 @@ fn node_names(alloc: Global, nodes: u32) -> Result<Vec<Name>, NoMemory>
 }
 
 fn node_name(alloc: Global, v: u32) -> Result<Name, NoMemory>
-    requires { v < 128 }
+    requires { v < most_nodes }
     ensures { IfOk result (λ name. name ≡ node_name v) }
 {
     let mut buffer = Buffer::new();
@@ -45,7 +46,7 @@ fn node_name(alloc: Global, v: u32) -> Result<Name, NoMemory>
 
 fn lines(alloc: Global, nodes: u32, number: u32) -> Result<Vec<Line>, NoMemory>
     requires some { 2 ≤ nodes }
-    requires few { nodes ≤ 128 }
+    requires few { nodes ≤ most_nodes }
     ensures { IfOk result (λ lines. lines.items ≡ generated_lines number nodes) }
 {
     let mut draws = Draws {

@@ -1,6 +1,7 @@
 -- The table of commands: which words write which command.
 use Rattle.std.specs.Prelude.{◌≡◌, ◌≢◌, ℕ, ◌-◌, ◌^◌, ◌≤◌, List, [], ◌∷◌, Option, Some, None, ⊤, codes}
 use Rattle.std.specs.Fmt.{decimal}
+use Rattle.graph_core.specs.Limits.{most_nodes}
 use Rattle.problem_defs.specs.Ask.{IsK}
 use Rattle.connect_words.specs.declared.command.Command.{Command}
 use Rattle.connect_words.specs.declared.command.Command.TheVariants.{Flow, CutTree, Augment, AugmentArcs, Arborescences, Trees, Forests, Orient, Dijoin, Check, Trial}
@@ -42,19 +43,16 @@ places Dijoin = word (codes "dijoin") ∷ []
 places Check = word (codes "check") ∷ []
 places (Trial kind nodes number) = word (codes "trial") ∷ word (kind_word kind) ∷ word (decimal nodes) ∷ word (decimal number) ∷ []
 
--- the most nodes of a trial, and its greatest number
-abbrev pub most_nodes : ℕ
-most_nodes = 128
-
-abbrev pub most_number : ℕ
-most_number = 2 ^ 32 - 1
+-- the greatest number of a trial
+abbrev pub greatest_trial : ℕ
+greatest_trial = 2 ^ 32 - 1
 
 -- how many nodes and which number a trial may have
 abbrev pub IsNodes : ℕ → Type 0
 IsNodes nodes = (2 ≤ nodes) × (nodes ≤ most_nodes)
 
 abbrev pub IsNumber : ℕ → Type 0
-IsNumber number = (0 ≤ number) × (number ≤ most_number)
+IsNumber number = (0 ≤ number) × (number ≤ greatest_trial)
 
 -- the numbers of a command are within their limits
 abbrev pub IsWithinLimits : Command → Type 0

@@ -1,5 +1,6 @@
 ghost use Rattle.std.specs.Prelude.{◌≡◌, ◌^◌, ◌<◌, ◌≤◌, ℕ, Bool, List, length};
 ghost use Rattle.cut_fn.specs.Submodular.{IsSubmodular, BoundsDifferences, BoundsThreeSides};
+ghost use Rattle.graph_core.specs.Limits.{side_room};
 
 use graph_core::Side;
 
@@ -12,7 +13,7 @@ pub trait CutFn {
     /// How many nodes there are.
     fn size(&self) -> usize
         ensures nodes { result ≡ nodes self.now }
-        ensures few { result ≤ 8192 };
+        ensures few { result ≤ side_room };
 
     /// The value of a side.
     fn value(&self, side: &Side) -> u64

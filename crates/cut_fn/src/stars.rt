@@ -1,4 +1,5 @@
-ghost use Rattle.std.specs.Prelude.{◌≡◌, ◌+◌, ◌<◌, ◌≤◌, length, sum, slice_index};
+ghost use Rattle.std.specs.Prelude.{◌*◌, ◌≡◌, ◌+◌, ◌<◌, ◌≤◌, length, sum, slice_index};
+ghost use Rattle.graph_core.specs.Limits.{line_room, side_room};
 ghost use Rattle.graph_core.specs.Lines.{degree, entering, leaving};
 ghost use Rattle.graph_core.specs.Side.{sum_over};
 ghost use Rattle.cut_fn.specs.StarLaws.{star_meets, star_parts, star_three, star_enters, star_leaves};
@@ -13,7 +14,7 @@ pub struct Star {
     pub graph: Graph,
     pub count: Counts,
     ghost long: { length count ≡ length graph.names },
-    ghost few: { sum count ≤ 65536 },
+    ghost few: { sum count ≤ line_room },
 }
 
 /// A digraph with a new node, with `into[v]` arcs to node v and `out[v]` arcs from it.
@@ -23,16 +24,16 @@ pub struct ArcStar {
     pub into: Counts,
     pub out: Counts,
     ghost into_long: { length into ≡ length graph.names },
-    ghost into_few: { sum into ≤ 65536 },
+    ghost into_few: { sum into ≤ line_room },
     ghost out_long: { length out ≡ length graph.names },
-    ghost out_few: { sum out ≤ 65536 },
+    ghost out_few: { sum out ≤ line_room },
 }
 
 /// The sum of all counts.
 pub fn total_count(counts: &[u64]) -> u64
-    requires { sum counts.now ≤ 131072 }
+    requires { sum counts.now ≤ 2 * line_room }
     ensures total { result ≡ sum counts.now }
-    ensures within { result ≤ 131072 }
+    ensures within { result ≤ 2 * line_room }
 {
     let mut total: u64 = 0;
     for count in counts {
@@ -44,10 +45,10 @@ pub fn total_count(counts: &[u64]) -> u64
 /// The sum of the counts over the nodes of a side.
 pub fn sum_counts(side: &Side, counts: &[u64]) -> u64
     requires long { length side.now ≡ length counts.now }
-    requires nodes { length counts.now ≤ 8192 }
-    requires few { sum counts.now ≤ 131072 }
+    requires nodes { length counts.now ≤ side_room }
+    requires few { sum counts.now ≤ 2 * line_room }
     ensures total { result ≡ sum_over side.now (slice_index counts.now) }
-    ensures within { result ≤ 131072 }
+    ensures within { result ≤ 2 * line_room }
 {
     let mut total: u64 = 0;
     for (v, count) in counts.iter().enumerate() {

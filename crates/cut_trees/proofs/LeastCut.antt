@@ -8,7 +8,7 @@ use Rattle.graph_core.specs.Side.{has}
 use Rattle.graph_core.proofs.PutLaws.{all_there}
 use Rattle.problem_defs.specs.CutTree.{tree_lines, IsLeastCut}
 use Rattle.flow_cuts.specs.NodeCuts.{IsLeastNodeCut, NoneIsLess}
-use Rattle.problem_defs.specs.Pairs.{no_pair, pair_at}
+use Rattle.graph_core.specs.Pairs.{no_pair, pair_at}
 use Rattle.cut_trees.specs.Order.{IsReached, IsSearched}
 use Rattle.cut_trees.specs.Way.{IsCutAt, IsLeastOnWay}
 use Rattle.graph_core.proofs.CutLaws.{differ_same}

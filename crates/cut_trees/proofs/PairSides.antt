@@ -5,7 +5,7 @@ use Rattle.std.proofs.lemmas.List.Elements.{All-get_or, All-from_get_or}
 use Rattle.graph_core.specs.Graph.{GraphValue, Fits}
 use Rattle.graph_core.specs.Labels.{Adds}
 use Rattle.problem_defs.specs.CutTree.{tree_lines, IsSpanningTree}
-use Rattle.problem_defs.specs.Pairs.{no_pair}
+use Rattle.graph_core.specs.Pairs.{no_pair}
 use Rattle.cut_trees.specs.PairSide.{HasOneSide}
 use Rattle.graph_core.proofs.TreeLaws.{removed, All-removed, line_side, one_side}
 use Rattle.problem_defs.proofs.TreeLines.{pair_line, length-tree, tree-line}

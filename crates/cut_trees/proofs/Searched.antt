@@ -15,7 +15,7 @@ use Rattle.graph_core.proofs.ProperLaws.{is_proper}
 use Rattle.graph_core.proofs.PutLaws.{size-only, size-put, some_missing, put_here, put_kept}
 use Rattle.graph_core.proofs.SideLaws.{has-complement}
 use Rattle.problem_defs.specs.CutTree.{tree_lines, IsLeastCut, IsSpanningTree}
-use Rattle.problem_defs.specs.Pairs.{no_pair, pair_at, AreIn}
+use Rattle.graph_core.specs.Pairs.{no_pair, pair_at, AreIn}
 use Rattle.cut_trees.specs.Order.{outward, IsReached, IsOrdered, IsSearched}
 use Rattle.problem_defs.proofs.TreeLines.{length-tree, degree-tree}
 use Rattle.graph_core.proofs.TreeLaws.{tree_connected}

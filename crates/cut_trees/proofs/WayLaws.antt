@@ -7,7 +7,7 @@ use Rattle.std.proofs.Common.{sym, ap, ◌∙◌, arith, inl, inr}
 use Rattle.std.proofs.lemmas.Bool.{cases_eq, false_from_ne_true}
 use Rattle.std.proofs.lemmas.List.{get_or-set_same, get_or-set_other}
 use Rattle.std.proofs.lemmas.List.Elements.{All-get_or}
-use Rattle.problem_defs.specs.Pairs.{no_pair, pair_at, AreIn}
+use Rattle.graph_core.specs.Pairs.{no_pair, pair_at, AreIn}
 use Rattle.cut_trees.specs.Order.{IsReached, IsOrdered}
 use Rattle.cut_trees.specs.Way.{IsCutAt, IsLeastOnWay}
 

@@ -1,10 +1,10 @@
 -- The pairs of a tree in an order in which a search comes to them, each turned to lead away from where it began. No public clause cites it.
-use Rattle.std.specs.Prelude.{ℕ, ◌≡◌, ◌≢◌, ◌+◌, ◌<◌, ◌≤◌, ◌⊎◌, Bool, true, false, List, length, slice_index_or, All}
+use Rattle.std.specs.Prelude.{ℕ, ◌≡◌, ◌≢◌, ◌+◌, ◌<◌, ◌≤◌, ◌⊎◌, Bool, true, false, List, length, All}
 use Rattle.graph_core.specs.Graph.{GraphValue}
 use Rattle.graph_core.specs.Side.{has, size}
 use Rattle.graph_core.specs.Lines.{degree}
 use Rattle.problem_defs.specs.CutTree.{tree_lines, IsLeastCut}
-use Rattle.problem_defs.specs.Pairs.{pair_at, AreIn}
+use Rattle.graph_core.specs.Pairs.{pair_at, AreIn}
 
 -- with its nodes exchanged, unless the first one is in
 abbrev pub outward : Bool → ℕ × ℕ × ℕ → ℕ × ℕ × ℕ

@@ -2,7 +2,7 @@
 use Rattle.std.specs.Prelude.{ℕ, ◌≡◌, ◌≢◌, ◌<◌, ◌≤◌, Bool, true, false, List, length}
 use Rattle.graph_core.specs.Side.{has}
 use Rattle.graph_core.specs.Lines.{differ}
-use Rattle.problem_defs.specs.Pairs.{pair_at}
+use Rattle.graph_core.specs.Pairs.{pair_at}
 
 -- pair j crosses Z and leaves it, and no other among the first i pairs crosses it
 pub record IsCutAt (ps : List (ℕ × ℕ × ℕ)) (j i : ℕ) (Z : List Bool) : Type 0 where

@@ -1,4 +1,5 @@
 ghost use Rattle.std.specs.Prelude.{◌≡◌, ◌<◌, ◌≤◌, length, ℕ, All, cond, ◌&&◌, ◌==◌, slice_index};
+ghost use Rattle.graph_core.specs.Limits.{side_room};
 ghost use Rattle.graph_core.specs.Side.{has};
 ghost use Rattle.cut_trees.specs.Branch.{at, turn, lead};
 
@@ -42,7 +43,7 @@ pub fn lead_on(branches: &mut [Branch], t: u32, s: u32, side: &Side)
 /// The nodes of the side that `t` represents are represented by `s` from now on.
 pub fn represent(reps: &mut [u32], t: u32, s: u32, side: &Side)
     requires long { length side.now ≡ length reps.old }
-    requires few { length reps.old ≤ 8192 }
+    requires few { length reps.old ≤ side_room }
     ensures { (x : ℕ) → x < length reps.old → slice_index reps.new x ≡ cond (slice_index reps.old x == t && has side.now x) s (slice_index reps.old x) }
 {
     for x in 0..reps.len() {

@@ -3,7 +3,7 @@ ghost use Rattle.graph_core.specs.Graph.{GraphValue, Fits};
 ghost use Rattle.graph_core.specs.Lines.{differ};
 ghost use Rattle.graph_core.specs.Side.{has};
 ghost use Rattle.problem_defs.specs.CutTree.{IsCutTree};
-ghost use Rattle.problem_defs.specs.Pairs.{pair_at, AreIn};
+ghost use Rattle.graph_core.specs.Pairs.{pair_at, AreIn};
 ghost use Rattle.cut_trees.specs.Order.{outward, IsSearched};
 
 use graph_core::Side;

@@ -1,7 +1,6 @@
 -- The capacity that leaves a side of a network with some arcs turned back.
-use Rattle.std.specs.Prelude.{ℕ, ◌≡◌, ◌+◌, ◌*◌, ◌<◌, Bool, true, false, not, ◌&&◌, List, [], ◌∷◌, map, length, All}
-use Rattle.std.proofs.Common.{sym, ap, ◌∙◌, arith, length-append}
-use Rattle.std.proofs.lemmas.List.{length-map}
+use Rattle.std.specs.Prelude.{ℕ, ◌≡◌, ◌+◌, ◌*◌, ◌<◌, Bool, true, false, not, ◌&&◌, List, [], ◌∷◌, map, All}
+use Rattle.std.proofs.Common.{sym, ap, ◌∙◌, arith}
 use Rattle.std.proofs.lemmas.List.Sums.{sum_by-cons, sum_by-append}
 use Rattle.std.proofs.lemmas.List.Elements.{All-append, All-map, All-weaker}
 use Rattle.graph_core.specs.Graph.{Fits}
@@ -34,9 +33,6 @@ capacity-along c X (l ∷ ls) =
 
 pub capacity-arcs_with : (c : ℕ) (X : List Bool) (ls arcs : List Line) → capacity X (arcs_with c ls arcs) ≡ c * leaving X ls + entering X arcs
 capacity-arcs_with c X ls arcs = omega (arith, sum_by-append (leaving_cap X) (map (arc_by Entering) arcs) (map (along c) ls), capacity-along c X ls, capacity-arcs_by Entering X arcs)
-
-pub length-arcs_with : (c : ℕ) (ls arcs : List Line) → length (arcs_with c ls arcs) ≡ length ls + length arcs
-length-arcs_with c ls arcs = omega (arith, length-append (map (arc_by Entering) arcs) (map (along c) ls), length-map ls (along c), length-map arcs (arc_by Entering))
 
 pub ends-arcs_with : (n c : ℕ) (ls arcs : List Line) → All (Fits n) ls → All (Fits n) arcs → All (λ a. (a.tail < n) × (a.head < n)) (arcs_with c ls arcs)
 ends-arcs_with n c ls arcs h k =

@@ -2,7 +2,7 @@
 use Rattle.std.specs.Prelude.{ℕ, ◌≡◌, ◌≢◌, ◌+◌, ◌<◌, ◌≤◌, Bool, true, false, ◌&&◌, ◌||◌, ◌⊎◌, List, [], ◌∷◌, ◌++◌, length, slice_index_or, slice_set, All}
 use Rattle.std.proofs.Common.{ap, sym, ◌∙◌, inl, inr, arith, length-append}
 use Rattle.std.proofs.lemmas.Bool.{cases_eq, cases_lt, and_parts, and_from, or_cases, or_left, or_right}
-use Rattle.std.proofs.lemmas.List.{length-set, get_or-set_same, get_or-set_other, get_or_past, get_or_push, get_or_append_left}
+use Rattle.std.proofs.lemmas.List.{length-set, get_or-set_same, get_or_past, get_or_push, get_or_append_left}
 use Rattle.std.proofs.lemmas.Simd.{length-zip2}
 use Rattle.std.proofs.lemmas.List.Elements.{All-get_or, All-set, All-push, All-weaker}
 use Rattle.graph_core.specs.Graph.{GraphValue, Fits}
@@ -22,9 +22,6 @@ square-set {n} rows v R s long = record { count = length-set rows v R ∙ s.coun
 
 leads-set : (rows : List (List Bool)) (v w : ℕ) (R : List Bool) → v < length rows → leads (slice_set rows v R) v w ≡ has R w
 leads-set rows v w R l = ap (λ X. has X w) (get_or-set_same rows v R [] l)
-
-leads-other : (rows : List (List Bool)) (v u w : ℕ) (R : List Bool) → u ≢ v → leads (slice_set rows v R) u w ≡ leads rows u w
-leads-other rows v u w R ne = ap (λ X. has X w) (get_or-set_other rows v u R [] ne)
 
 -- the row of k is joined to that of v
 module _ (rows : List (List Bool)) (s : AreSquare (length rows) rows) (v k : ℕ) (v_in : v < length rows) (k_in : k < length rows) where

@@ -1,5 +1,6 @@
 -- Networks in which the capacity that leaves a side counts the arcs that leave it, and those of a list that enter it. No public clause cites it.
 use Rattle.std.specs.Prelude.{ℕ, ◌≤◌, List, ◌++◌, map, length, All}
+use Rattle.graph_core.specs.Limits.{line_room}
 use Rattle.graph_core.specs.Graph.{GraphValue, Fits}
 use Rattle.graph_core.specs.declared.graph.Line.{Line}
 use Rattle.problem_defs.specs.declared.cert.Way.TheVariants.{Entering}
@@ -16,5 +17,5 @@ arcs_with c ls arcs = map (arc_by Entering) arcs ++ map (along c) ls
 
 -- arcs between nodes of a graph, no more than a graph may have
 pub record AreArcs (g : GraphValue) (arcs : List Line) : Type 0 where
-  pub few : length arcs ≤ 65536
+  pub few : length arcs ≤ line_room
   pub fit : All (Fits (length g.names)) arcs

@@ -1,4 +1,5 @@
 ghost use Rattle.std.specs.Prelude.{◌≡◌, ◌<◌, ◌≤◌, ◌^◌, length, true, false, All, IfOk};
+ghost use Rattle.graph_core.specs.Limits.{node_room, side_room};
 ghost use Rattle.graph_core.specs.Graph.{IsWithinSize};
 ghost use Rattle.edmonds_branchings.specs.Network.{network_of, AreEnds};
 ghost use Rattle.edmonds_branchings.specs.Round.{IsFree, IsBlocked};
@@ -11,7 +12,7 @@ use std::alloc::Global;
 /// The digraph turned round, with one node more that the roots lead to. So the capacity that leaves a side without that node
 /// is the number of arcs that enter the side in the digraph, and of branchings that may begin in it.
 pub fn network(alloc: Global, graph: &Graph, roots: &Counts) -> Result<Vec<Cap>, NoMemory>
-    requires few { length roots.now ≤ 8192 }
+    requires few { length roots.now ≤ side_room }
     requires small { All (λ c. c < 2 ^ 32) roots.now }
     ensures { IfOk result (λ arcs. arcs.items ≡ network_of graph.now.lines roots.now) }
 {
@@ -22,7 +23,7 @@ pub fn network(alloc: Global, graph: &Graph, roots: &Counts) -> Result<Vec<Cap>,
 
 /// Whether each side that arc `j` leaves has a capacity of at least `k`.
 pub fn may_take(alloc: Global, n: usize, arcs: &[Cap], j: usize, k: u32) -> Result<bool, NoMemory>
-    requires nodes { n ≤ 4096 }
+    requires nodes { n ≤ node_room }
     requires few { length arcs.now ≤ 262144 }
     requires ends { AreEnds n arcs.now }
     requires number { j < length arcs.now }

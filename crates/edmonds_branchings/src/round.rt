@@ -1,4 +1,5 @@
 ghost use Rattle.std.specs.Prelude.{◌≡◌, ◌<◌, ◌≤◌, ◌+◌, ◌-◌, ℕ, length, slice_set, true, false, All, IfOk, OnOk};
+ghost use Rattle.graph_core.specs.Limits.{node_room, side_room};
 ghost use Rattle.graph_core.specs.Graph.{IsWithinSize};
 ghost use Rattle.graph_core.specs.Side.{has, size};
 ghost use Rattle.edmonds_branchings.specs.Network.{cap_at, taken, AreEnds, IsLeft};
@@ -32,8 +33,8 @@ fn try_step(
     j: usize,
     k: u32,
 ) -> Result<bool, NoMemory>
-    requires nodes { n ≤ 4096 }
-    requires few { length arcs.now ≤ 8192 }
+    requires nodes { n ≤ node_room }
+    requires few { length arcs.now ≤ side_room }
     requires ends { AreEnds n arcs.now }
     requires covered { length covered.now ≡ n + 1 }
     requires number { j < length arcs.now }
@@ -65,8 +66,8 @@ fn find_step(
     refused: &mut Side,
     k: u32,
 ) -> Result<usize, NoMemory>
-    requires nodes { n ≤ 4096 }
-    requires few { length arcs.now ≤ 8192 }
+    requires nodes { n ≤ node_room }
+    requires few { length arcs.now ≤ side_room }
     requires ends { AreEnds n arcs.now }
     requires some { 1 ≤ k }
     requires round { IsRound n k arcs.now covered.now }
@@ -94,7 +95,7 @@ fn take_step(
     row: &mut Numbers,
     j: usize,
 ) -> Result<(), NoMemory>
-    requires few { length arcs.old.items ≤ 8192 }
+    requires few { length arcs.old.items ≤ side_room }
     requires left { 0 < (cap_at arcs.old.items j).cap }
     requires tail { (cap_at arcs.old.items j).tail < length covered.old }
     ensures arcs { arcs.new.items ≡ taken arcs.old.items j }

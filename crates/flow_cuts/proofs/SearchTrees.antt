@@ -10,6 +10,7 @@ use Rattle.flow_cuts.specs.declared.network.Step.{Step}
 use Rattle.flow_cuts.specs.declared.search.Mark.{Mark}
 use Rattle.flow_cuts.specs.Residual.{from_at, to_at, room_at}
 use Rattle.graph_core.specs.Side.{has}
+use Rattle.graph_core.proofs.Counting.{weight}
 use Rattle.flow_cuts.proofs.ClosedSides.{sum_by_zeros}
 use Rattle.flow_cuts.specs.Search.{unseen, no_mark, mark_at, row_at, is_seen, IsReached, IsFilled, IsSearchForest, IsAdjacency, Grows, IsClosedTree, IsLookedAt, IsDone, IsRow}
 
@@ -32,15 +33,12 @@ is_seen-of m lt = grind (arith, nat_tests)
 pub is_seen-not : (m : Mark) → m.level ≡ unseen → is_seen m ≡ false
 is_seen-not m e = grind (arith, nat_tests)
 
-abbrev pub as_one : Bool → ℕ
-as_one b = cond b 1 0
-
 counted_more : (ms : List Mark) (v : ℕ) (m : Mark) → v < length ms → (mark_at ms v).level ≡ unseen → m.level < unseen →
     count_by is_seen (slice_set ms v m) ≡ count_by is_seen ms + 1
 counted_more ms v m lt un seen =
     let all = sum_by-set (λ x. cond (is_seen x) 1 0) ms v m no_mark lt in
-    let old : cond (is_seen (mark_at ms v)) 1 0 ≡ 0 = ap as_one (is_seen-not (mark_at ms v) un) in
-    let new : cond (is_seen m) 1 0 ≡ 1 = ap as_one (is_seen-of m seen) in
+    let old : cond (is_seen (mark_at ms v)) 1 0 ≡ 0 = ap weight (is_seen-not (mark_at ms v) un) in
+    let new : cond (is_seen m) 1 0 ≡ 1 = ap weight (is_seen-of m seen) in
     omega (arith, all, old, new)
 
 pub place_left : (n : ℕ) (ms : List Mark) (q : List ℕ) (c v : ℕ) → IsFilled n ms q c → v < length ms → (mark_at ms v).level ≡ unseen → c < n
@@ -175,7 +173,7 @@ pub IsFilled-none : (n : ℕ) (ms : List Mark) (q : List ℕ) → length ms ≡ 
 IsFilled-none n ms q m l none = record {
   marks_len = m;
   queue_len = l;
-  counted = sum_by_zeros (λ x. cond (is_seen x) 1 0) no_mark ms (λ j lt. ap as_one (is_seen-not (mark_at ms j) (none j)));
+  counted = sum_by_zeros (λ x. cond (is_seen x) 1 0) no_mark ms (λ j lt. ap weight (is_seen-not (mark_at ms j) (none j)));
   low = λ v h. omega (arith, none v);
   queued = λ v h. absurd (omega (arith, none v));
   seen = λ k h. absurd (omega arith);

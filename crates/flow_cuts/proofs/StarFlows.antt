@@ -5,7 +5,8 @@ use Rattle.std.proofs.lemmas.Bool.{cases_eq, cases_lt}
 use Rattle.std.proofs.lemmas.List.{length-append, get_or-set_same, get_or-set_other, get_or_past}
 use Rattle.std.proofs.lemmas.List.Elements.{All-append, All-weaker}
 use Rattle.graph_core.specs.Side.{has, IsOnly}
-use Rattle.flow_cuts.specs.Cuts.{IsLeastCapacity, IsLeastCut, IsSmallestCut, IsLargestCut, IsWithin}
+use Rattle.cut_fn.specs.TwoSides.{IsWithin}
+use Rattle.flow_cuts.specs.Cuts.{IsLeastCapacity, IsLeastCut, IsSmallestCut, IsLargestCut}
 use Rattle.flow_cuts.specs.LeastMissing.{HasMissing, IsLeastMissing}
 use Rattle.flow_cuts.specs.Network.{Separates, capacity}
 use Rattle.flow_cuts.specs.NewNode.{count_arcs, with_new_node, value_with, AreArcs}

@@ -1,5 +1,5 @@
 -- A walk that is taken out of what is sent, and walks in which no link stands twice.
-use Rattle.std.proofs.Common.{◌≡◌, ◌≢◌, ◌∙◌, ℕ, suc, zero, ◌+◌, ◌-◌, ◌<◌, ◌≤◌, List, [], ◌∷◌, ◌++◌, length, reverse, Bool, true, false, cond, refl, sym, ap, subst, arith, inl, inr}
+use Rattle.std.proofs.Common.{◌≡◌, ◌≢◌, ◌∙◌, ℕ, suc, zero, ◌+◌, ◌-◌, ◌<◌, ◌≤◌, List, [], ◌∷◌, ◌++◌, length, reverse, Bool, true, false, refl, sym, ap, subst, arith, inl, inr}
 use Rattle.std.specs.Prelude.{sum_by, ◌==◌, slice_index_or, map, All}
 use Rattle.std.proofs.lemmas.List.{reverse-append}
 use Rattle.std.proofs.lemmas.List.Sums.{sum_by-append, sum_by-cons}
@@ -15,6 +15,7 @@ use Rattle.graph_core.specs.Side.{has, IsOnly}
 use Rattle.flow_cuts.specs.Search.{mark_at, IsOpenWay}
 use Rattle.flow_cuts.specs.Streams.{taken, both_at, sent_of, IsSent, IsStream, IsLess}
 use Rattle.graph_core.specs.Picked.{occurrences}
+use Rattle.graph_core.proofs.Counting.{weight}
 use Rattle.flow_cuts.specs.LinkWalks.{Joins, IsLinkWalk, AreLinkWalks, AreUnits}
 use Rattle.flow_cuts.specs.Search.{IsSearched, IsMissed, is_seen}
 use Rattle.flow_cuts.proofs.ExtremeSides.{Separates-reached, IsClosedSide-reached, IsReachedSet-map}
@@ -38,12 +39,9 @@ same_test a b e = grind arith
 pub other_test : (a b : ℕ) → a ≢ b → (a == b) ≡ false
 other_test a b e = grind arith
 
-abbrev pub one_if : Bool → ℕ
-one_if b = cond b 1 0
-
-occurrences-push : (j i : ℕ) (walk : List ℕ) → occurrences j (walk ++ i ∷ []) ≡ occurrences j walk + one_if (i == j)
+occurrences-push : (j i : ℕ) (walk : List ℕ) → occurrences j (walk ++ i ∷ []) ≡ occurrences j walk + weight (i == j)
 occurrences-push j i walk =
-    let e = sum_by-append (λ k. one_if (k == j)) walk (i ∷ []) in
+    let e = sum_by-append (λ k. weight (k == j)) walk (i ∷ []) in
     omega arith
 
 pub IsTaking-step : (inside : List Bool) (ms : List Mark) (end : ℕ) (old new : List Link) (v : ℕ) (back : List ℕ) (s : Step) →
@@ -60,13 +58,13 @@ IsTaking-step inside ms end old new v back s from t last =
       less = IsLess-trans old new (taken new s) t.less (IsLess-taken new s last.link);
       once = λ j. elim (eq_or_not j s.link) [
         | inl e ↦
-            let test : one_if (s.link == j) ≡ 1 = ap one_if (same_test s.link j (sym e)) in
+            let test : weight (s.link == j) ≡ 1 = ap weight (same_test s.link j (sym e)) in
             let at = both_at-here new s last.link last.room in
             let a = ap (both_at new) e in
             let b = ap (both_at (taken new s)) e in
             omega (arith, occurrences-push j s.link back, test, at, a, b, t.once j)
         | inr e ↦
-            let test : one_if (s.link == j) ≡ 0 = ap one_if (other_test s.link j (λ x. e (sym x))) in
+            let test : weight (s.link == j) ≡ 0 = ap weight (other_test s.link j (λ x. e (sym x))) in
             omega (arith, occurrences-push j s.link back, test, both_at-off new s j last.link e, t.once j)
       ];
       surplus = λ outside r stream.
@@ -85,7 +83,7 @@ occurrences-reverse j [] = refl
 occurrences-reverse j (i ∷ walk) =
     let e : reverse (i ∷ walk) ≡ reverse walk ++ i ∷ [] = reverse-append (i ∷ []) walk in
     let f = ap (occurrences j) e in
-    omega (arith, f, occurrences-push j i (reverse walk), occurrences-reverse j walk, sum_by-cons (λ k. one_if (k == j)) i walk)
+    omega (arith, f, occurrences-push j i (reverse walk), occurrences-reverse j walk, sum_by-cons (λ k. weight (k == j)) i walk)
 
 -- where a search misses the outside nothing is sent
 pub none_left : (n : ℕ) (inside outside : List Bool) (sent : List Link) (r : ℕ) (ms : List Mark) → IsStream n inside outside sent r →

@@ -1,6 +1,6 @@
 -- Least cuts between two sides of a network.
-use Rattle.std.specs.Prelude.{◌≡◌, ℕ, ◌<◌, ◌≤◌, Bool, true, List}
-use Rattle.graph_core.specs.Side.{has}
+use Rattle.std.specs.Prelude.{◌≡◌, ℕ, ◌<◌, ◌≤◌, Bool, List}
+use Rattle.cut_fn.specs.TwoSides.{IsWithin}
 use Rattle.flow_cuts.specs.declared.network.Cap.{Cap}
 use Rattle.flow_cuts.specs.Network.{capacity, Separates}
 
@@ -15,10 +15,6 @@ pub record IsLeastCut (n : ℕ) (inside outside : List Bool) (arcs : List Cap) (
   pub separates : Separates n inside outside X
   pub value_is : capacity X arcs ≡ value
   pub least : (Y : List Bool) → Separates n inside outside Y → value ≤ capacity Y arcs
-
--- each node of X is in Y
-pub record IsWithin (X Y : List Bool) : Type 0 where
-  pub at : (v : ℕ) → has X v ≡ true → has Y v ≡ true
 
 -- a least cut that lies within each other one
 pub record IsSmallestCut (n : ℕ) (inside outside : List Bool) (arcs : List Cap) (value : ℕ) (X : List Bool) : Type 0 where

@@ -1,7 +1,7 @@
 -- Least values of the sides that hold one side and miss a node.
 use Rattle.std.specs.Prelude.{ℕ, ◌≡◌, ◌<◌, ◌≤◌, Bool, false, List, length}
 use Rattle.graph_core.specs.Side.{has}
-use Rattle.flow_cuts.specs.Cuts.{IsWithin}
+use Rattle.cut_fn.specs.TwoSides.{IsWithin}
 
 -- X is a side of n nodes that holds those of H, misses node w and has the value. Of n nodes each side misses node n
 pub record HasMissing (n : ℕ) (f : List Bool → ℕ) (H : List Bool) (w value : ℕ) (X : List Bool) : Type 0 where

@@ -1,5 +1,6 @@
 -- Networks with a new node, to which each node has an arc.
-use Rattle.std.specs.Prelude.{ℕ, suc, ◌+◌, ◌<◌, ◌≤◌, Bool, List, [], ◌∷◌, ◌++◌, length, All}
+use Rattle.std.specs.Prelude.{◌*◌, ℕ, suc, ◌+◌, ◌<◌, ◌≤◌, Bool, List, [], ◌∷◌, ◌++◌, length, All}
+use Rattle.graph_core.specs.Limits.{line_room}
 use Rattle.graph_core.specs.Side.{sum_over}
 use Rattle.graph_core.specs.declared.graph.Line.{Line}
 use Rattle.problem_defs.specs.declared.cert.Way.{Way}
@@ -28,5 +29,5 @@ value_with arcs w X = capacity X arcs + sum_over X w
 
 -- arcs among n nodes, few enough for a network with a new node
 pub record AreArcs (n : ℕ) (arcs : List Cap) : Type 0 where
-  pub few : length arcs ≤ 131072
+  pub few : length arcs ≤ 2 * line_room
   pub ends : All (λ a. (a.tail < n) × (a.head < n)) arcs

@@ -5,6 +5,7 @@ use Rattle.flow_cuts.specs.declared.network.Step.{Step}
 use Rattle.flow_cuts.specs.declared.network.Way.TheVariants.{Forth}
 use Rattle.flow_cuts.specs.declared.search.Mark.{Mark}
 use Rattle.flow_cuts.specs.Residual.{from_at, to_at, room_at}
+use Rattle.graph_core.specs.Limits.{side_room}
 use Rattle.graph_core.specs.Side.{has}
 
 abbrev pub row_at : List (List Step) → ℕ → List Step
@@ -12,7 +13,7 @@ row_at rows v = slice_index_or rows v []
 
 -- n nodes, and at each node just the steps from it
 pub record IsAdjacency (n : ℕ) (ls : List Link) (rows : List (List Step)) : Type 0 where
-  pub fits : n ≤ 8192
+  pub fits : n ≤ side_room
   pub rows_len : length rows ≡ n
   pub from : (s : Step) → s.link < length ls → from_at ls s < n
   pub to : (s : Step) → s.link < length ls → to_at ls s < n
@@ -91,7 +92,7 @@ IsOpenWay ls inside ms a (suc k) v =
 -- all that can be reached from a side is reached, by steps that have room
 pub record IsSearched (n : ℕ) (ls : List Link) (inside : List Bool) (ms : List Mark) : Type 0 where
   pub len : length ms ≡ n
-  pub low : (v : ℕ) → (mark_at ms v).level < unseen → (mark_at ms v).level < 8192
+  pub low : (v : ℕ) → (mark_at ms v).level < unseen → (mark_at ms v).level < side_room
   pub roots : (v : ℕ) → has inside v ≡ true → (mark_at ms v).level < unseen
   pub forest : IsSearchForest ls inside ms
   pub closed : IsClosedTree ls ms
@@ -111,7 +112,7 @@ IsNarrowWay ls inside ms (suc k) v =
 pub record IsLevelled (n : ℕ) (inside : List Bool) (ms : List Mark) : Type 0 where
   pub len : length ms ≡ n
   pub roots : (v : ℕ) → (mark_at ms v).level ≡ 0 → (has inside v ≡ true) × (0 < (mark_at ms v).narrow)
-  pub low : (v : ℕ) → (mark_at ms v).level < unseen → (mark_at ms v).level < 8192
+  pub low : (v : ℕ) → (mark_at ms v).level < unseen → (mark_at ms v).level < side_room
 
 -- the marks have changed at the node w alone, and not its level
 pub record IsLedTo (ms ms' : List Mark) (w : ℕ) : Type 0 where

@@ -1,4 +1,5 @@
 ghost use Rattle.std.specs.Prelude.{◌≡◌, ◌<◌, ◌≤◌, ◌^◌, length, map, All, IfOk};
+ghost use Rattle.graph_core.specs.Limits.{line_room, side_room};
 ghost use Rattle.graph_core.specs.declared.graph.Kind.TheVariants.{Undirected};
 ghost use Rattle.flow_cuts.specs.GraphArcs.{arcs_of};
 ghost use Rattle.flow_cuts.specs.NewNode.{arc_by, with_new_node};
@@ -10,7 +11,7 @@ use std::alloc::Global;
 
 /// An arc each way along each edge. The capacity that leaves a side over them is d.
 pub fn edge_arcs(alloc: Global, lines: &[Line]) -> Result<Vec<Cap>, NoMemory>
-    requires { length lines.now ≤ 65536 }
+    requires { length lines.now ≤ line_room }
     ensures { IfOk result (λ arcs. arcs.items ≡ arcs_of Undirected lines.now) }
 {
     let mut arcs = Vec::with_capacity(alloc, 2 * lines.len())?;
@@ -47,7 +48,7 @@ pub fn arcs_by(alloc: Global, way: Way, lines: &[Line]) -> Result<Vec<Cap>, NoMe
 /// The network with a new node, to which each node has an arc with its count for the capacity. The capacity that leaves a
 /// side without the new node is that of the arcs, and the counts of the side.
 pub fn add_new_node(alloc: Global, arcs: &[Cap], counts: &[u64]) -> Result<Vec<Cap>, NoMemory>
-    requires nodes { length counts.now ≤ 8192 }
+    requires nodes { length counts.now ≤ side_room }
     requires small { All (λ count. count < 2 ^ 32) counts.now }
     requires few { length arcs.now ≤ 16777216 }
     ensures { IfOk result (λ all. all.items ≡ with_new_node arcs.now counts.now) }

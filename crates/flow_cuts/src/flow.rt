@@ -5,6 +5,7 @@ ghost use Rattle.flow_cuts.specs.GraphArcs.{arcs_of};
 ghost use Rattle.flow_cuts.specs.Residual.{EachFits, AreLinksOf, from_at, to_at, link_of, link_along};
 ghost use Rattle.flow_cuts.specs.Sound.{arcs_seen, origin_of, IsWholeOf};
 ghost use Rattle.flow_cuts.specs.declared.network.Step.{Step as StepOf};
+ghost use Rattle.graph_core.specs.Limits.{side_room};
 
 use crate::adjacency::Adjacency;
 use crate::course::Course;
@@ -86,7 +87,7 @@ impl Flow {
         whole: Vec<Link>,
         graph: Option<Source>,
     ) -> Result<Flow, NoMemory>
-        requires nodes { n ≤ 8192 }
+        requires nodes { n ≤ side_room }
         requires few { vec_len whole < 2 ^ 31 }
         requires fits { EachFits whole.items }
         requires from { (s : StepOf) → s.link < length whole.items → from_at whole.items s < n }
@@ -114,7 +115,7 @@ impl Flow {
 
     /// A flow over arcs with capacities among `n` nodes, before its first run.
     pub fn of_arcs(alloc: Global, n: usize, arcs: &[Cap]) -> Result<Flow, NoMemory>
-        requires nodes { n ≤ 8192 }
+        requires nodes { n ≤ side_room }
         requires few { length arcs.now ≤ 16777216 }
         requires ends { All (λ arc. (arc.tail < n) × (arc.head < n)) arcs.now }
         ensures { IfOk result (λ flow. flow ≡ record { nodes = n; arcs = arcs.now; graph = None; last = None }) }

@@ -1,6 +1,7 @@
 ghost use Rattle.std.specs.Prelude.{◌≡◌, ℕ, ◌+◌, ◌<◌, ◌≤◌, List, Bool, true, length, IfSome, IfNone};
 ghost use Rattle.flow_cuts.specs.declared.network.Step.{Step as StepOf};
 ghost use Rattle.flow_cuts.specs.declared.network.Cap.{Cap as CapOf};
+ghost use Rattle.graph_core.specs.Limits.{side_room};
 ghost use Rattle.graph_core.specs.Side.{has};
 ghost use Rattle.flow_cuts.specs.Residual.{EachFits, SameEnds, SameSums, from_at, IsFlow};
 ghost use Rattle.flow_cuts.specs.Search.{mark_at, unseen, IsOpenWay, IsNarrowWay, IsAdjacency, IsLevelled, IsLedTo, IsSearched, IsMissed};
@@ -42,7 +43,7 @@ fn lead_on(
     requires network { IsAdjacency (length marks.old) links.now steps.now }
     requires next { length next.old ≡ length marks.old }
     requires node { v < length marks.old }
-    requires low { (mark_at marks.old v).level < 8192 }
+    requires low { (mark_at marks.old v).level < side_room }
     ensures next { length next.new ≡ length marks.old }
     ensures none { IfNone result (marks.new ≡ marks.old) }
     ensures node { IfSome result (λ w. w < length marks.old) }

@@ -4,6 +4,7 @@ ghost use Rattle.flow_cuts.specs.Cuts.{IsSmallestCut, IsLargestCut};
 ghost use Rattle.flow_cuts.specs.Search.{IsAdjacency, IsSearched, IsMissed};
 ghost use Rattle.flow_cuts.specs.Ready.{IsReady, HasRun};
 ghost use Rattle.flow_cuts.specs.declared.network.Cap.{Cap as CapOf};
+ghost use Rattle.graph_core.specs.Limits.{side_room};
 
 use crate::course::Course;
 use crate::levels::send_by_levels;
@@ -55,7 +56,7 @@ fn find_sides(
 impl Residual {
     /// What a run changes, before the first run.
     pub fn new(alloc: Global, n: usize, whole: &[Link]) -> Result<Residual, NoMemory>
-        requires { n ≤ 8192 }
+        requires { n ≤ side_room }
         ensures { IfOk result (IsReady n whole.now) }
     {
         let links = Vec::from_slice(alloc, whole)?;

@@ -1,5 +1,6 @@
 ghost use Rattle.std.specs.Prelude.{◌≡◌, ℕ, ◌+◌, ◌<◌, ◌≤◌, List, Bool, true, length, slice_set, IfSome, IfNone, IfOk};
 ghost use Rattle.flow_cuts.specs.Residual.{from_at, to_at, room_at};
+ghost use Rattle.graph_core.specs.Limits.{side_room};
 ghost use Rattle.graph_core.specs.Side.{has};
 ghost use Rattle.flow_cuts.specs.declared.network.Link.{Link as LinkOf};
 ghost use Rattle.flow_cuts.specs.Search.{unseen, mark_at, row_at, IsReached, IsFilled, IsSearchForest, IsAdjacency, Grows, IsClosedTree, IsLookedAt, IsRow, IsDone, IsSearched, IsMissed};
@@ -68,7 +69,7 @@ fn add(tree: &mut Tree, v: u32, mark: Mark)
 fn look(links: &[Link], step: Step, tree: &mut Tree)
     requires link { step.link < length links.now }
     requires to { to_at links.now step < length tree.old.marks.items }
-    requires fits { length tree.old.marks.items ≤ 8192 }
+    requires fits { length tree.old.marks.items ≤ side_room }
     requires from { (mark_at tree.old.marks.items (from_at links.now step)).level < unseen }
     requires filled { IsFilled (length tree.old.marks.items) tree.old.marks.items tree.old.queue.items tree.old.count }
 
@@ -92,7 +93,7 @@ fn look(links: &[Link], step: Step, tree: &mut Tree)
 
 /// Looks along each step of a row.
 fn expand(links: &[Link], row: &[Step], tree: &mut Tree)
-    requires fits { length tree.old.marks.items ≤ 8192 }
+    requires fits { length tree.old.marks.items ≤ side_room }
     requires row { IsRow (length tree.old.marks.items) links.now tree.old.marks.items row.now }
     requires filled { IsFilled (length tree.old.marks.items) tree.old.marks.items tree.old.queue.items tree.old.count }
     ensures filled { IsFilled (length tree.old.marks.items) tree.new.marks.items tree.new.queue.items tree.new.count }
@@ -126,7 +127,7 @@ fn clear(tree: &mut Tree)
 
 /// Starts a tree anew, with the nodes of a side.
 fn plant(inside: &Side, tree: &mut Tree)
-    requires fits { length inside.now ≤ 8192 }
+    requires fits { length inside.now ≤ side_room }
     requires marks { length tree.old.marks.items ≡ length inside.now }
     requires queue { length tree.old.queue.items ≡ length inside.now }
     ensures filled { IsFilled (length inside.now) tree.new.marks.items tree.new.queue.items tree.new.count }
@@ -168,7 +169,7 @@ pub fn search(links: &[Link], steps: &Adjacency, inside: &Side, tree: &mut Tree)
 
 /// A node of a side that is reached, if there is one.
 pub fn reached_in(side: &Side, marks: &[Mark]) -> Option<u32>
-    requires fits { length side.now ≤ 8192 }
+    requires fits { length side.now ≤ side_room }
     requires marks { length marks.now ≡ length side.now }
     ensures some { IfSome result (λ v. (v < length side.now) × (has side.now v ≡ true) × ((mark_at marks.now v).level < unseen)) }
     ensures none { IfNone result (IsMissed side.now marks.now) }

@@ -1,5 +1,6 @@
 ghost use Rattle.std.specs.Prelude.{◌≡◌, ℕ, ◌+◌, ◌<◌, ◌≤◌, List, Bool, true, length, map, not};
 ghost use Rattle.flow_cuts.specs.Residual.{mirrored};
+ghost use Rattle.graph_core.specs.Limits.{side_room};
 ghost use Rattle.graph_core.specs.Side.{has};
 ghost use Rattle.flow_cuts.specs.Search.{mark_at, is_seen};
 
@@ -9,7 +10,7 @@ use graph_core::Side;
 
 /// Writes down the nodes that are reached.
 pub fn write_reached(marks: &[Mark], into: &mut Side)
-    requires fits { length marks.now ≤ 8192 }
+    requires fits { length marks.now ≤ side_room }
     requires len { length into.old ≡ length marks.now }
     ensures len { length into.new ≡ length marks.now }
     ensures at { (v : ℕ) → v < length marks.now → has into.new v ≡ is_seen (mark_at marks.now v) }
@@ -21,7 +22,7 @@ pub fn write_reached(marks: &[Mark], into: &mut Side)
 
 /// Writes down the nodes that are not reached.
 pub fn write_missed(marks: &[Mark], into: &mut Side)
-    requires fits { length marks.now ≤ 8192 }
+    requires fits { length marks.now ≤ side_room }
     requires len { length into.old ≡ length marks.now }
     ensures len { length into.new ≡ length marks.now }
     ensures at { (v : ℕ) → v < length marks.now → has into.new v ≡ not (is_seen (mark_at marks.now v)) }

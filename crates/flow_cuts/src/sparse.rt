@@ -1,5 +1,6 @@
 ghost use Rattle.std.specs.Prelude.{◌≡◌, ◌<◌, ◌≤◌, length, true, false, All, IfOk};
 ghost use Rattle.flow_cuts.specs.Sparse.{AreJoined, FindsSparse, IsSparse};
+ghost use Rattle.graph_core.specs.Limits.{side_room};
 
 use crate::flow::Flow;
 use crate::network::Cap;
@@ -45,7 +46,7 @@ pub fn sparse_side(
     least: u64,
 ) -> Result<Option<Side>, NoMemory>
     requires some { 1 ≤ n }
-    requires nodes { n ≤ 8192 }
+    requires nodes { n ≤ side_room }
     requires few { length arcs.now ≤ 16777216 }
     requires ends { All (λ a. (a.tail < n) × (a.head < n)) arcs.now }
     ensures { IfOk result (FindsSparse n arcs.now least) }

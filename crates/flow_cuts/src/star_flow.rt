@@ -1,6 +1,7 @@
 ghost use Rattle.std.specs.Prelude.{◌≡◌, ◌+◌, ◌<◌, ◌≤◌, ◌^◌, ℕ, Bool, List, length, slice_index, All, Some, IfOk};
 ghost use Rattle.graph_core.specs.Side.{has};
-ghost use Rattle.flow_cuts.specs.Cuts.{IsLeastCapacity, IsWithin};
+ghost use Rattle.cut_fn.specs.TwoSides.{IsWithin};
+ghost use Rattle.flow_cuts.specs.Cuts.{IsLeastCapacity};
 ghost use Rattle.flow_cuts.specs.LeastMissing.{HasMissing, IsLeastMissing};
 ghost use Rattle.flow_cuts.specs.NewNode.{with_new_node, value_with, AreArcs};
 ghost use Rattle.flow_cuts.specs.StarRun.{AreRunSides};

@@ -1,6 +1,7 @@
 ghost use Rattle.std.specs.Prelude.{◌≡◌, ◌<◌, ◌≤◌, ◌^◌, length, replicate, true, sum_by, IfOk};
 ghost use Rattle.problem_defs.specs.Certified.{IsCertified};
 ghost use Rattle.problem_defs.specs.Forests.{Suits};
+ghost use Rattle.graph_core.specs.Limits.{side_room};
 
 use crate::dense::{demand_of, densest};
 use graph_core::{Graph, NoMemory, NumberRows, Side};
@@ -39,7 +40,7 @@ pub fn cover_forests(alloc: Global, graph: &Graph) -> Result<Certified<ForestsAs
 
 /// The side of all nodes.
 fn all_nodes(alloc: Global, n: usize) -> Result<Side, NoMemory>
-    requires { n ≤ 8192 }
+    requires { n ≤ side_room }
     ensures { IfOk result (λ side. side ≡ replicate n true) }
 {
     let mut side = Side::empty(alloc, n)?;

@@ -1,5 +1,6 @@
 -- Graphs.
 use Rattle.std.specs.Prelude.{◌≡◌, ◌≢◌, ℕ, ◌<◌, ◌≤◌, true, false, List, ◌++◌, map, length, replicate, sum, All, AllPairs}
+use Rattle.graph_core.specs.Limits.{most_nodes, most_lines, node_room, line_room, most_number, most_numbers, most_cost}
 use Rattle.graph_core.specs.Name.{IsName}
 use Rattle.graph_core.specs.declared.graph.Kind.{Kind}
 use Rattle.graph_core.specs.declared.graph.Kind.TheVariants.{Undirected}
@@ -18,23 +19,23 @@ pub record Fits (n : ℕ) (l : Line) : Type 0 where
   pub head : l.head < n
   pub apart : l.tail ≢ l.head
 
--- a cost of at most 100, which is 1 where the line is an edge or a fixed arc
+-- a cost within its limit, which is 1 where the line is an edge or a fixed arc
 pub record IsPriced (kind : Kind) (l : Line) : Type 0 where
-  pub most : l.cost ≤ 100
+  pub most : l.cost ≤ most_cost
   pub edge : kind ≡ Undirected → l.cost ≡ 1
   pub fixed : l.fixed ≡ true → l.cost ≡ 1
 
 -- numbers for n nodes
 pub record AreNumbers (n : ℕ) (numbers : List ℕ) : Type 0 where
   pub long : length numbers ≡ n
-  pub most : All (λ x. x ≤ 8192) numbers
-  pub total : sum numbers ≤ 65536
+  pub most : All (λ x. x ≤ most_number) numbers
+  pub total : sum numbers ≤ most_numbers
 
 -- what a kind, names, lines and numbers have to meet to make a graph
 pub record MakesGraph (g : GraphValue) : Type 0 where
   pub some : 1 ≤ length g.names
-  pub nodes : length g.names ≤ 4096
-  pub few : length g.lines ≤ 65536
+  pub nodes : length g.names ≤ node_room
+  pub few : length g.lines ≤ line_room
   pub distinct : AllPairs (λ a b. a ≢ b) g.names
   pub ends : All (Fits (length g.names)) g.lines
   pub free : g.kind ≡ Undirected → All (λ l. l.fixed ≡ false) g.lines
@@ -48,8 +49,8 @@ pub record IsGraph (g : GraphValue) : Type 0 where
 
 -- the size that the solvers are made for
 pub record IsWithinSize (g : GraphValue) : Type 0 where
-  pub nodes : length g.names ≤ 128
-  pub lines : length g.lines ≤ 2048
+  pub nodes : length g.names ≤ most_nodes
+  pub lines : length g.lines ≤ most_lines
 
 -- the number 0 for each of n nodes
 abbrev pub no_numbers : ℕ → List ℕ

@@ -1,5 +1,6 @@
 ghost use Rattle.std.specs.Prelude.{◌≡◌, ℕ, ◌+◌, ◌<◌, ◌≤◌, ◌↔◌, All, length, IsTrue, IfOk};
 ghost use Rattle.std.specs.Bool.{OnTrue, OnFalse};
+ghost use Rattle.graph_core.specs.Limits.{line_room};
 ghost use Rattle.graph_core.specs.Picked.{occurrences, mark, IsDistinct};
 
 use crate::NoMemory;
@@ -23,7 +24,7 @@ pub fn mark_row(marks: &mut [bool], row: &[u32]) -> bool
 
 /// Whether no number stands twice.
 pub fn are_distinct(alloc: Global, limit: usize, row: &[u32]) -> Result<bool, NoMemory>
-    requires few { limit ≤ 65536 }
+    requires few { limit ≤ line_room }
     requires below { All (λ j. j < limit) row.now }
     ensures { IfOk result (λ distinct. IsTrue distinct ↔ IsDistinct row.now) }
 {

@@ -1,4 +1,5 @@
 ghost use Rattle.std.specs.Prelude.{◌≡◌, ◌<◌, ◌≤◌, ◌^◌, ◌↔◌, ℕ, length, slice_index, All, IsTrue, IfOk};
+ghost use Rattle.graph_core.specs.Limits.{node_room};
 ghost use Rattle.graph_core.specs.Labels.{joined, splits};
 ghost use Rattle.graph_core.specs.Trees.{IsForest};
 
@@ -8,7 +9,7 @@ use std::alloc::Global;
 
 /// Each of `n` nodes as a class of its own, by labels.
 fn own_labels(alloc: Global, n: usize) -> Result<Vec<u32>, NoMemory>
-    requires { n ≤ 4096 }
+    requires { n ≤ node_room }
     ensures long { IfOk result (λ labels. length labels.items ≡ n) }
     ensures each { IfOk result (λ labels. (v : ℕ) → v < n → slice_index labels.items v ≡ v) }
 {

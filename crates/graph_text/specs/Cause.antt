@@ -4,6 +4,7 @@ use Rattle.std.specs.declared.option.Option.{Option}
 use Rattle.std.specs.declared.option.Option.TheVariants.{None, Some}
 use Rattle.std.specs.List.{find, list_any, list_all}
 use Rattle.std.specs.Str.{bytes_eq}
+use Rattle.graph_core.specs.Limits.{most_cost, most_costs, most_lines, most_nodes, most_number, most_numbers}
 use Rattle.graph_core.specs.Name.{is_name_byte}
 use Rattle.graph_core.specs.declared.graph.Kind.{Kind}
 use Rattle.graph_core.specs.declared.graph.Kind.TheVariants.{Undirected, Directed}
@@ -73,14 +74,14 @@ holds content said NoHeader = wants_header said && not (has_begun content)
 holds content said BadLine = is_no_item said && has_begun content
 holds content said WrongKind = is_wrong content.kind said
 holds content said BadName = list_any (λ name. not (is_name name)) (nodes_on said) || list_any (lacks is_name) (ends_on said)
-holds content said BadNumber = list_any (λ word. not (is_number 8192 word)) (number_words_on said) || list_any (λ word. not (is_number 100 word)) (cost_words_on said)
+holds content said BadNumber = list_any (λ word. not (is_number most_number word)) (number_words_on said) || list_any (λ word. not (is_number most_cost word)) (cost_words_on said)
 holds content said TwiceNode = list_any (is_known content) (nodes_on said)
 holds content said UnknownNode = list_any (lacks (is_known content)) (ends_on said)
 holds content said Loop = list_any (λ ends. bytes_eq ends.tail ends.head) (ends_on said)
-holds content said ManyNodes = list_any (λ name. nat_le 128 (length content.names)) (nodes_on said)
-holds content said ManyLines = list_any (λ ends. nat_le 2048 (length content.ends)) (ends_on said)
-holds content said ManyNumbers = list_any (λ number. nat_lt 65536 (sum content.numbers + number)) (numbers_on said)
-holds content said ManyCosts = list_any (λ cost. nat_lt 4000 (cost_of content.ends + cost)) (costs_on said)
+holds content said ManyNodes = list_any (λ name. nat_le most_nodes (length content.names)) (nodes_on said)
+holds content said ManyLines = list_any (λ ends. nat_le most_lines (length content.ends)) (ends_on said)
+holds content said ManyNumbers = list_any (λ number. nat_lt most_numbers (sum content.numbers + number)) (numbers_on said)
+holds content said ManyCosts = list_any (λ cost. nat_lt most_costs (cost_of content.ends + cost)) (costs_on said)
 holds content said NoNode = is_end said && (length content.names == 0)
 holds content said NoEnd = false
 

@@ -2,6 +2,7 @@
 use Rattle.std.specs.Prelude.{ℕ, ◌≤◌, ◌≡◌, ◌==◌, Bool, true, false, List, ◌++◌, map, sum_by, codes, if◌then◌else◌}
 use Rattle.std.specs.List.{flat_map, zip}
 use Rattle.std.specs.Fmt.{decimal}
+use Rattle.graph_core.specs.Limits.{most_costs}
 use Rattle.graph_core.specs.Graph.{GraphValue}
 use Rattle.graph_core.specs.declared.graph.Kind.{Kind}
 use Rattle.graph_core.specs.declared.graph.Kind.TheVariants.{Undirected, Directed}
@@ -41,4 +42,4 @@ plain_text g = header_line g.kind ++ (flat_map node_line (zip g.names g.numbers)
 
 -- what the arcs cost together is within what a text may have
 abbrev pub HasFewCosts : GraphValue → Type 0
-HasFewCosts g = g.kind ≡ Directed → sum_by (λ line. line.cost) g.lines ≤ 4000
+HasFewCosts g = g.kind ≡ Directed → sum_by (λ line. line.cost) g.lines ≤ most_costs

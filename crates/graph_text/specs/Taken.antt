@@ -2,6 +2,7 @@
 use Rattle.std.specs.Prelude.{ℕ, ◌+◌, ◌-◌, ◌<◌, ◌≤◌, ◌≡◌, Bool, true, false, sum, List, [], ◌∷◌, ◌++◌, length, take}
 use Rattle.std.specs.declared.option.Option.TheVariants.{None, Some}
 use Rattle.std.specs.Str.{bytes_eq}
+use Rattle.graph_core.specs.Limits.{most_cost, most_costs, most_lines, most_nodes, most_number, most_numbers}
 use Rattle.graph_core.specs.Name.{IsName}
 use Rattle.graph_core.specs.declared.graph.Kind.TheVariants.{Undirected, Directed}
 use Rattle.graph_text.specs.Numbers.{value, is_number, arc_cost}
@@ -12,24 +13,24 @@ use Rattle.graph_text.specs.Reading.{CutsNoLine}
 
 -- two known nodes, and room for a line between them
 pub record CanJoin (content : Content) (tail head : List ℕ) : Type 0 where
-  pub room : length content.ends < 2048
+  pub room : length content.ends < most_lines
   pub tail_known : is_known content tail ≡ true
   pub head_known : is_known content head ≡ true
   pub apart : bytes_eq tail head ≡ false
 
 -- a new name with a number, and room for both
 pub record CanAdd (content : Content) (name number : List ℕ) : Type 0 where
-  pub room : length content.names < 128
+  pub room : length content.names < most_nodes
   pub named : IsName name
   pub fresh : is_known content name ≡ false
-  pub is_number : is_number 8192 number ≡ true
-  pub total : sum content.numbers + value number ≤ 65536
+  pub is_number : is_number most_number number ≡ true
+  pub total : sum content.numbers + value number ≤ most_numbers
 
 -- an arc of a directed graph with a cost, and room for the cost
 pub record CanPay (content : Content) (fixed : Bool) (cost : List ℕ) : Type 0 where
   pub kind : content.kind ≡ Some Directed
-  pub is_number : is_number 100 cost ≡ true
-  pub total : cost_of content.ends + arc_cost fixed cost ≤ 4000
+  pub is_number : is_number most_cost cost ≡ true
+  pub total : cost_of content.ends + arc_cost fixed cost ≤ most_costs
 
 -- what a line without a fault meets
 abbrev pub CanTake : Content → Said → Type 0

@@ -9,6 +9,7 @@ ghost use Rattle.graph_core.specs.declared.graph.Kind.TheVariants.{Undirected, D
 use crate::Why;
 use crate::draft::Draft;
 use crate::item::Item;
+use crate::limits::{MOST_COST, MOST_COSTS, MOST_LINES, MOST_NODES, MOST_NUMBER, MOST_NUMBERS};
 use crate::number::{arc_cost, number_to};
 use graph_core::{Kind, Name};
 
@@ -53,14 +54,14 @@ fn cause_of_node(draft: &Draft, name: &[u8], word: &[u8]) -> Option<Why>
     if !is_name(name) {
         return Some(Why::BadName);
     }
-    let Some(number) = number_to(word, 8192) else {
+    let Some(number) = number_to(word, MOST_NUMBER) else {
         return Some(Why::BadNumber);
     };
     if draft.find(name).is_some() {
         Some(Why::TwiceNode)
-    } else if draft.node_count() >= 128 {
+    } else if draft.node_count() >= MOST_NODES {
         Some(Why::ManyNodes)
-    } else if draft.number_sum() + number > 65536 {
+    } else if draft.number_sum() + number > MOST_NUMBERS {
         Some(Why::ManyNumbers)
     } else {
         None
@@ -107,12 +108,12 @@ fn cause_of_own_arc(
     if !is_name(tail) || !is_name(head) {
         return Some(Why::BadName);
     }
-    let Some(number) = number_to(word, 100) else {
+    let Some(number) = number_to(word, MOST_COST) else {
         return Some(Why::BadNumber);
     };
     match cause_of_ends(draft, tail, head) {
         Some(why) => Some(why),
-        None if draft.cost_sum() + arc_cost(fixed, number) > 4000 => Some(Why::ManyCosts),
+        None if draft.cost_sum() + arc_cost(fixed, number) > MOST_COSTS => Some(Why::ManyCosts),
         None => None,
     }
 }
@@ -125,7 +126,7 @@ fn cause_of_ends(draft: &Draft, tail: &[u8], head: &[u8]) -> Option<Why>
         Some(Why::UnknownNode)
     } else if tail == head {
         Some(Why::Loop)
-    } else if draft.line_count() >= 2048 {
+    } else if draft.line_count() >= MOST_LINES {
         Some(Why::ManyLines)
     } else {
         None

@@ -1,6 +1,7 @@
 ghost use Rattle.std.specs.Prelude.{◌≡◌, ◌≢◌, ◌<◌, ◌≤◌, ◌+◌, ◌++◌, ◌∷◌, [], map, sum, length, is_some, position, slice_get, IfOk, OnOk, OnErr, false, true, None, Some};
 ghost use Rattle.std.specs.List.{list_any};
 ghost use Rattle.std.specs.Str.{bytes_eq};
+ghost use Rattle.graph_core.specs.Limits.{most_cost, most_costs, most_lines, most_nodes, most_number, most_numbers};
 ghost use Rattle.graph_core.specs.Name.{IsName};
 ghost use Rattle.graph_core.specs.Graph.{IsWithinSize};
 ghost use Rattle.graph_core.specs.declared.graph.Kind.TheVariants.{Undirected, Directed};
@@ -80,7 +81,7 @@ impl Draft {
     /// What the numbers of the nodes add up to.
     pub(crate) fn number_sum(&self) -> u64
         ensures sum { result ≡ sum self.now.numbers }
-        ensures within { result ≤ 65536 }
+        ensures within { result ≤ most_numbers }
     {
         self.number_sum
     }
@@ -88,7 +89,7 @@ impl Draft {
     /// What the costs of the lines add up to.
     pub(crate) fn cost_sum(&self) -> u64
         ensures sum { result ≡ cost_of self.now.ends }
-        ensures within { result ≤ 4000 }
+        ensures within { result ≤ most_costs }
     {
         self.cost_sum
     }
@@ -117,11 +118,11 @@ impl Draft {
         name: &[u8],
         number: u64,
     ) -> Result<(), NoMemory>
-        requires room { length self.old.names < 128 }
+        requires room { length self.old.names < most_nodes }
         requires named { IsName name.now }
         requires is_new { list_any (bytes_eq name.now) self.old.names ≡ false }
-        requires most { number ≤ 8192 }
-        requires total { sum self.old.numbers + number ≤ 65536 }
+        requires most { number ≤ most_number }
+        requires total { sum self.old.numbers + number ≤ most_numbers }
         ensures ok { OnOk result (self.new ≡ record { kind = self.old.kind; names = self.old.names ++ name.now ∷ []; numbers = self.old.numbers ++ number ∷ []; ends = self.old.ends }) }
         ensures err { OnErr result (self.new ≡ self.old) }
     {
@@ -141,7 +142,7 @@ impl Draft {
     }
 
     pub(crate) fn push_edge(&mut self, tail: &[u8], head: &[u8]) -> Result<(), NoMemory>
-        requires room { length self.old.ends < 2048 }
+        requires room { length self.old.ends < most_lines }
         requires tail { list_any (bytes_eq tail.now) self.old.names ≡ true }
         requires head { list_any (bytes_eq head.now) self.old.names ≡ true }
         requires apart { bytes_eq tail.now head.now ≡ false }
@@ -160,14 +161,14 @@ impl Draft {
         fixed: bool,
         cost: u32,
     ) -> Result<(), NoMemory>
-        requires room { length self.old.ends < 2048 }
+        requires room { length self.old.ends < most_lines }
         requires tail { list_any (bytes_eq tail.now) self.old.names ≡ true }
         requires head { list_any (bytes_eq head.now) self.old.names ≡ true }
         requires apart { bytes_eq tail.now head.now ≡ false }
         requires kind { self.old.kind ≡ Some Directed }
-        requires most { cost ≤ 100 }
+        requires most { cost ≤ most_cost }
         requires one { fixed ≡ true → cost ≡ 1 }
-        requires total { cost_of self.old.ends + cost ≤ 4000 }
+        requires total { cost_of self.old.ends + cost ≤ most_costs }
         ensures ok { OnOk result (self.new ≡ with_ends self.old (record { tail = tail.now; head = head.now; fixed = fixed; cost = cost })) }
         ensures err { OnErr result (self.new ≡ self.old) }
     {
@@ -181,12 +182,12 @@ impl Draft {
         fixed: bool,
         cost: u32,
     ) -> Result<(), NoMemory>
-        requires room { length self.old.ends < 2048 }
+        requires room { length self.old.ends < most_lines }
         requires tail { list_any (bytes_eq tail.now) self.old.names ≡ true }
         requires head { list_any (bytes_eq head.now) self.old.names ≡ true }
         requires apart { bytes_eq tail.now head.now ≡ false }
         requires priced { MayCost self.old.kind fixed cost }
-        requires total { cost_of self.old.ends + cost ≤ 4000 }
+        requires total { cost_of self.old.ends + cost ≤ most_costs }
         ensures ok { OnOk result (self.new ≡ with_ends self.old (record { tail = tail.now; head = head.now; fixed = fixed; cost = cost })) }
         ensures err { OnErr result (self.new ≡ self.old) }
     {

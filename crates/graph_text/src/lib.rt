@@ -5,6 +5,7 @@ mod cause;
 mod draft;
 mod item;
 mod law;
+mod limits;
 mod line;
 mod number;
 mod read;

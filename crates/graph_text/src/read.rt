@@ -11,6 +11,7 @@ ghost use Rattle.graph_text.specs.Said.{Skipped, End};
 use crate::cause::cause;
 use crate::draft::Draft;
 use crate::item::{Item, item_of_line};
+use crate::limits::{MOST_COST, MOST_NUMBER};
 use crate::line::first_line;
 use crate::number::{arc_cost, number_to};
 use crate::{GraphRefusal, Why};
@@ -136,12 +137,12 @@ fn take(alloc: Global, draft: &mut Draft, item: &Item<'_>) -> Result<(), NoMemor
             Ok(())
         }
         Item::Node(name, word) => {
-            let number = number_to(word, 8192).unwrap();
+            let number = number_to(word, MOST_NUMBER).unwrap();
             draft.push_node(alloc, name, number)
         }
         Item::Edge(tail, head) => draft.push_edge(tail, head),
         Item::Arc(tail, head, fixed, word) => {
-            let number = number_to(word, 100).unwrap();
+            let number = number_to(word, MOST_COST).unwrap();
             draft.push_arc(tail, head, *fixed, arc_cost(*fixed, number) as u32)
         }
         _ => Ok(()),

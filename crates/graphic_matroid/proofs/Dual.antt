@@ -102,7 +102,7 @@ module _ (n : ℕ) (ls : List Line) (fit : count_by (unfit n) ls ≡ 0) (k : ℕ
       let more : IsAcyclic n (chosen (set (kept_set p) found.0 true) ls) =
       forest_more n lab (chosen (kept_set p) ls) w.closed (kept_forest p lp) (get_or ls found.0 no_line) (chosen (set (kept_set p) found.0 true) ls)
       (record { counts = λ q. chosen-set q (kept_set p) ls found.0 no_line short l fresh }) (split_is n lab (get_or ls found.0 no_line) found.3) in
-      u.full p found.0 lp l no_p found.2
+      u.spans p found.0 lp l no_p found.2
       (λ X ne.
       let large : count_by (within X) (chosen (set (kept_set p) found.0 true) ls) < size X = more X ne in
       omega (arith, chosen-le (within X) (set_of (length ls) (plus (kept_lines rows reached p) found.0)) (set (kept_set p) found.0 true) ls (λ i li h. grown p found.0 i short li h))))

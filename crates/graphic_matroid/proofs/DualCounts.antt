@@ -12,8 +12,8 @@ use Rattle.graph_core.specs.Picked.{picked, occurrences}
 use Rattle.graph_core.specs.Walks.{AreDisjoint}
 use Rattle.graph_core.specs.Trees.{IsForest, IsAcyclic}
 use Rattle.graph_core.specs.declared.graph.Line.{Line}
-use Rattle.graph_core.proofs.Counting.{weight, weighed, passes, sum_by-add, sum_by-agree, sum_by-same, sum_by-le_each, rows-le, sum_by-concat, length-le-sum_by, count_by-picked, count_by-picks, length-all_picked, All-picked}
-use Rattle.graph_core.proofs.FamilyLaws.{between-and-within, sum_by-size_of_partition, size-nonempty}
+use Rattle.graph_core.proofs.Counting.{weight, weighed, passes, sum_by-add, sum_by-agree, sum_by-same, sum_by-le_each, rows-le, sum_by-concat, count_by-picked, count_by-picks, length-all_picked, All-picked}
+use Rattle.graph_core.proofs.FamilyLaws.{between-and-within, sum_by-size_of_partition, length-partition}
 use Rattle.graph_core.specs.Sets.{set_of}
 use Rattle.matroid_union.specs.Union.{names, row, IsUnion}
 use Rattle.graph_core.proofs.SetLaws.{has_of}
@@ -40,12 +40,6 @@ weighed-where p (l ∷ ls) times h =
     let here : cond (p l) (times 0) 0 ≡ 0 = ap (λ b. cond b (times 0) 0) f in
     omega (arith, count-cons p l ls, weight_false (p l) f))
     (cases_Bool (p l))
-
--- a partition has no more classes than nodes
-pub length-partition : (n : ℕ) (P : List (List Bool)) → IsPartition n P → length P ≤ n
-length-partition n P part =
-    let some : All (λ X. 1 ≤ size X) P = All-weaker (IsNonempty n) (λ X. 1 ≤ size X) (λ X h. size-nonempty X h.some_in) P part.nonempty in
-    omega (arith, length-le-sum_by size P some, sum_by-size_of_partition n P part)
 
 -- the most lines, without a difference
 pub most-sum : (n : ℕ) (ls : List Line) (k : ℕ) (rows : List (List ℕ)) (P : List (List Bool)) → AreMostForests n ls k rows P → sum_by length rows + k * length P ≡ between P ls + k * n

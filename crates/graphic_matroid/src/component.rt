@@ -1,6 +1,7 @@
 ghost use Rattle.std.specs.Prelude.{◌≡◌, ℕ, ◌<◌, ◌≤◌, ◌^◌, length, slice_index, count_by, IfOk};
 ghost use Rattle.graphic_matroid.specs.Chosen.{chosen};
 ghost use Rattle.graphic_matroid.specs.Components.{AreComponents, classes_of};
+ghost use Rattle.graph_core.specs.Limits.{line_room, side_room};
 ghost use Rattle.graph_core.specs.Labels.{class};
 ghost use Rattle.graphic_matroid.specs.Unfit.{unfit};
 ghost use Rattle.graphic_matroid.specs.Roots.{AreRoots, AreClasses, IsRootOf};
@@ -32,7 +33,7 @@ pub fn graph_components(alloc: Global, graph: &Graph) -> Result<Sides, NoMemory>
 /// Makes the classes those that the marked lines join.
 fn join_marked(classes: &mut Classes, lines: &[Line], marks: &Marks)
     requires few_nodes { length classes.old.parents.items < 2 ^ 32 }
-    requires few_lines { length lines.now ≤ 65536 }
+    requires few_lines { length lines.now ≤ line_room }
     requires alike { length classes.old.ranks.items ≡ length classes.old.parents.items }
     requires fit { count_by (unfit (length classes.old.parents.items)) lines.now ≡ 0 }
     requires long { length marks.now ≡ length lines.now }
@@ -64,7 +65,7 @@ fn roots_of(alloc: Global, classes: &Classes) -> Result<Vec<u32>, NoMemory>
 
 /// The class of each node that is its own root.
 fn sides_of(alloc: Global, roots: &[u32]) -> Result<Sides, NoMemory>
-    requires { length roots.now ≤ 8192 }
+    requires { length roots.now ≤ side_room }
     ensures { IfOk result (λ sides. sides ≡ classes_of (length roots.now) (slice_index roots.now)) }
 {
     let mut sides = Sides::new(alloc);
@@ -78,7 +79,7 @@ fn sides_of(alloc: Global, roots: &[u32]) -> Result<Sides, NoMemory>
 
 /// The nodes with this root.
 fn class_of(alloc: Global, roots: &[u32], root: u32) -> Result<Side, NoMemory>
-    requires { length roots.now ≤ 8192 }
+    requires { length roots.now ≤ side_room }
     ensures { IfOk result (λ side. side ≡ class (length roots.now) (slice_index roots.now) root) }
 {
     let mut side = Side::empty(alloc, roots.len())?;

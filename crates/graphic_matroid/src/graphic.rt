@@ -1,4 +1,5 @@
 ghost use Rattle.std.specs.Prelude.{◌≡◌, ◌↔◌, ◌<◌, ◌≤◌, ◌^◌, length, count_by, IsTrue, IfOk};
+ghost use Rattle.graph_core.specs.Limits.{line_room};
 ghost use Rattle.graph_core.specs.Trees.{IsAcyclic};
 ghost use Rattle.graphic_matroid.specs.Chosen.{chosen};
 ghost use Rattle.graphic_matroid.specs.Unfit.{unfit};
@@ -22,7 +23,7 @@ pub struct Graphic {
     pub lines: Vec<Line>,
     pub(crate) classes: Classes,
     pub ghost few_nodes: { nodes < 2 ^ 32 },
-    pub ghost few_lines: { length lines.items ≤ 65536 },
+    pub ghost few_lines: { length lines.items ≤ line_room },
     pub ghost fit: { count_by (unfit nodes) lines.items ≡ 0 },
     pub ghost parents_long: { length classes.parents.items ≡ nodes },
     pub ghost ranks_long: { length classes.ranks.items ≡ nodes },
@@ -103,7 +104,7 @@ impl Matroid for Graphic {
 /// Whether the lines of the set are a forest. It joins the classes of their ends one by one.
 fn is_forest(lines: &[Line], set: &Marks, classes: &mut Classes) -> bool
     requires few_nodes { length classes.old.parents.items < 2 ^ 32 }
-    requires few_lines { length lines.now ≤ 65536 }
+    requires few_lines { length lines.now ≤ line_room }
     requires alike { length classes.old.ranks.items ≡ length classes.old.parents.items }
     requires fit { count_by (unfit (length classes.old.parents.items)) lines.now ≡ 0 }
     requires long { length set.now ≡ length lines.now }

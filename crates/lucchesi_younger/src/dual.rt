@@ -1,5 +1,6 @@
 ghost use Rattle.std.specs.Prelude.{◌≡◌, ◌+◌, ◌++◌, ℕ, ◌<◌, ◌≤◌, length, IfOk, OnOk};
 ghost use Rattle.lucchesi_younger.specs.Kept.{at, AllKept, AreLayer, IsBuilt, level};
+ghost use Rattle.graph_core.specs.Limits.{node_room};
 
 use crate::work::Work;
 use dicut_lattice::Tight;
@@ -22,7 +23,7 @@ fn greatest(counts: &Counts) -> u64
 
 /// The nodes of at least this potential.
 fn level_of(alloc: Global, potential: &Counts, least: u64) -> Result<Side, NoMemory>
-    requires { length potential.now ≤ 4096 }
+    requires { length potential.now ≤ node_room }
     ensures { IfOk result (λ side. side ≡ level potential.now least) }
 {
     let mut side = Side::empty(alloc, potential.len())?;

@@ -1,6 +1,7 @@
 ghost use Rattle.std.specs.Prelude.{◌≡◌, ◌<◌, ◌≤◌, length, replicate, false, All, IfOk};
 ghost use Rattle.lucchesi_younger.specs.Marks.{AreMarks, AreListed, AreCleared, AreAdded};
 ghost use Rattle.lucchesi_younger.specs.Ways.{arcs_taken, arcs_left};
+ghost use Rattle.graph_core.specs.Limits.{line_room};
 
 use crate::work::{By, Step};
 use graph_core::{Marks, NoMemory, Numbers};
@@ -28,7 +29,7 @@ pub(crate) fn marks_of(alloc: Global, m: usize, join: &Numbers) -> Result<Marks,
 
 /// The numbers of the marked arcs.
 pub(crate) fn numbers_of(alloc: Global, marks: &Marks) -> Result<Numbers, NoMemory>
-    requires { length marks.now ≤ 65536 }
+    requires { length marks.now ≤ line_room }
     ensures { IfOk result (λ numbers. AreListed marks.now numbers) }
 {
     let mut numbers = Numbers::new(alloc);

@@ -1,5 +1,6 @@
 ghost use Rattle.std.specs.Prelude.{◌≡◌, ◌+◌, ◌++◌, ◌∷◌, [], ℕ, ◌<◌, ◌≤◌, length, replicate, IfOk, OnOk, true, false, slice_set};
 ghost use Rattle.lucchesi_younger.specs.Search.{node};
+ghost use Rattle.graph_core.specs.Limits.{side_room};
 
 use crate::work::{Step, Visit};
 use graph_core::{NoMemory, Side};
@@ -15,7 +16,7 @@ pub(crate) struct Search {
 impl Search {
     /// Begins at the end of a step, among n nodes.
     pub(crate) fn start(alloc: Global, n: usize, step: Step) -> Result<Search, NoMemory>
-        requires few { n ≤ 8192 }
+        requires few { n ≤ side_room }
         requires below { step.to < n }
         ensures reached { IfOk result (λ s. s.reached ≡ slice_set (replicate n false) step.to true) }
         ensures visits { IfOk result (λ s. s.visits.items ≡ record { step = step; back = 0 } ∷ []) }

@@ -126,7 +126,7 @@ module _ (n : ℕ) (free : List Bool → Type 0) (m : IsMatroid n free) (k : ℕ
     inside = λ p e l h. let w = in_row p e l h in let u = w.high in omega arith;
     distinct = λ e. rows_once n own e 0 k;
     parts = λ p l. part_of n free m (names (row (rows_of n own k) p)) (part own p) (λ e _ h. (in_row p e l h).passes) (pack.parts p l);
-    reached_long = dead.long;
+    long = dead.long;
     rest = λ e l out.
         (elim (own e) as (λ o. own e ≡ o → has reached e ≡ true) [
           | None ↦ (λ none. rest e l none)
@@ -134,7 +134,7 @@ module _ (n : ℕ) (free : List Bool → Type 0) (m : IsMatroid n free) (k : ℕ
               let lp : p < k = pack.below e p some in
               absurd (both_ways (names (row (rows_of n own k) p) e) (out p lp) (to_row p e lp l (holds_same (own e) p some))))
         ]) refl;
-    full = λ p e lp le out r w.
+    spans = λ p e lp le out r w.
         dead.full e r p lp (not_in_row p e lp le out)
         (part_of n free m (plus (kept own reached p n) e) (plus (λ i. names (row (rows_of n own k) p) i && has reached i) e)
         (λ i li h. ⊎_elim

@@ -4,6 +4,7 @@ use Rattle.std.proofs.lemmas.Bool.{cases_eq, cases_lt, both_ways, false_from_ne_
 use Rattle.std.proofs.lemmas.List.{length-set, get_or-set_same, get_or-set_other, get_or_append_left, get_or_push, length_push}
 use Rattle.std.proofs.lemmas.List.Sums.{sum_by-set}
 use Rattle.graph_core.specs.Side.{has, size}
+use Rattle.graph_core.proofs.Counting.{weight}
 use Rattle.matroid_union.specs.Matroid.{IsMatroid}
 use Rattle.matroid_union.specs.Sets.{plus, swap}
 use Rattle.graph_core.specs.Sets.{set_of}
@@ -13,9 +14,6 @@ use Rattle.matroid_union.proofs.Members.{plus-old, plus-new, plus-cases, swap-ol
 use Rattle.matroid_union.proofs.Exchanges.{part_of}
 use Rattle.matroid_union.proofs.Kept.{kept-part, kept-cases, kept-reached}
 use Rattle.matroid_union.proofs.Chain.{holds_is}
-
-abbrev weight : Bool → ℕ
-weight b = cond b 1 0
 
 -- marking an element that wasn't marked
 module _ (reached : List Bool) (y : ℕ) (ly : y < length reached) (fresh : has reached y ≡ false) where

@@ -5,13 +5,11 @@ use Rattle.std.proofs.lemmas.List.{length-set, get_or-set_same, get_or-set_other
 use Rattle.std.proofs.lemmas.List.Sums.{sum_by-cons, sum_by-set}
 use Rattle.std.proofs.lemmas.List.FromFn.{fill_by_all}
 use Rattle.graph_core.specs.Side.{has, size}
+use Rattle.graph_core.proofs.Counting.{weight}
 use Rattle.matroid_union.specs.Sets.{plus, minus, swap}
 use Rattle.graph_core.specs.Sets.{set_of}
 use Rattle.graph_core.proofs.SetLaws.{has_of, length_of}
 use Rattle.matroid_union.proofs.Members.{plus-old, plus-new, plus-cases, minus-in, minus-parts, minus-out, minus-gone, plus-other}
-
-abbrev weight : Bool → ℕ
-weight b = cond b 1 0
 
 size-cons : (b : Bool) (X : List Bool) → size (b ∷ X) ≡ cond b 1 0 + size X
 size-cons b X = sum_by-cons (λ c. cond c 1 0) b X

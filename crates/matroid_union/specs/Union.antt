@@ -14,14 +14,14 @@ names row e = list_any (λ x. x == e) row
 abbrev pub row : List (List ℕ) → ℕ → List ℕ
 row rows p = slice_index_or rows p []
 
--- k rows of elements below n, each a free set, no element named twice in all of them together
-pub record IsUnion (n : ℕ) (free : List Bool → Type 0) (k : ℕ) (rows : List (List ℕ)) (reached : List Bool) : Type 0 where
+-- k rows of elements below n, each a free set, no element named twice in all of them together, and a set T that shows that
+-- no others name more: it has each element that no row names, and each row's elements in T span T (Edmonds 1968)
+pub record IsUnion (n : ℕ) (free : List Bool → Type 0) (k : ℕ) (rows : List (List ℕ)) (T : List Bool) : Type 0 where
   pub many : length rows ≡ k
   pub inside : (p e : ℕ) → p < k → names (row rows p) e ≡ true → e < n
   pub distinct : IsDistinct (concat rows)
   pub parts : (p : ℕ) → p < k → free (set_of n (names (row rows p)))
-  pub reached_long : length reached ≡ n
-  -- each element that no row names is reached
-  pub rest : (e : ℕ) → e < n → ((p : ℕ) → p < k → names (row rows p) e ≡ false) → has reached e ≡ true
-  -- no part can take a reached element beside its own reached ones
-  pub full : (p e : ℕ) → p < k → e < n → names (row rows p) e ≡ false → has reached e ≡ true → free (set_of n (plus (λ i. names (row rows p) i && has reached i) e)) → ⊥
+  pub long : length T ≡ n
+  pub rest : (e : ℕ) → e < n → ((p : ℕ) → p < k → names (row rows p) e ≡ false) → has T e ≡ true
+  -- no row can take an element of T beside its own in T
+  pub spans : (p e : ℕ) → p < k → e < n → names (row rows p) e ≡ false → has T e ≡ true → free (set_of n (plus (λ i. names (row rows p) i && has T i) e)) → ⊥

@@ -14,7 +14,7 @@ use Rattle.graph_core.proofs.SideLaws.{has-below}
 use Rattle.graph_core.proofs.SizeLaws.{count-cons, some_or_none}
 use Rattle.graph_core.specs.declared.graph.Line.{Line}
 use Rattle.problem_defs.specs.Orient.{turn, turned}
-use Rattle.split_undirected.specs.Split.{ends_at, apart}
+use Rattle.split_undirected.specs.Split.{ends_at}
 use Rattle.nw_orientation.specs.Chosen.{chosen, first, rest, woven}
 use Rattle.nw_orientation.specs.Led.{led, arrives, AreClaimed}
 use Rattle.nw_orientation.specs.Moved.{moved, moved_line, touches, other_end, apart_marks, others, spokes, spoke_ends}
@@ -25,6 +25,7 @@ use Rattle.graph_core.proofs.HeadLaws.{nodes_named, nodes_named_by}
 use Rattle.graph_core.proofs.WeightLaws.{nodes_agree}
 use Rattle.graph_core.proofs.TestSides.{length-side_of, has-side_of, count-all}
 use Rattle.graph_core.proofs.ProperLaws.{is_proper, node_in, node_out}
+use Rattle.graph_core.specs.Pairs.{apart}
 
 -- lines turned, and all that holds of a line either way
 All-turned : (P Q : Line → Type 0) → ((l : Line) (h : Bool) → P l → Q (turn l h)) → (ls : List Line) (hs : List Bool) → All P ls → All Q (turned ls hs)

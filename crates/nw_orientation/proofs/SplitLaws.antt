@@ -14,7 +14,7 @@ use Rattle.graph_core.proofs.Counting.{weight, All-both}
 use Rattle.graph_core.proofs.HeadLaws.{nodes_add, nodes_named}
 use Rattle.graph_core.proofs.SizeLaws.{count-cons}
 use Rattle.graph_core.specs.declared.graph.Line.{Line}
-use Rattle.split_undirected.specs.Split.{ends_at, apart}
+use Rattle.split_undirected.specs.Split.{ends_at}
 use Rattle.nw_orientation.specs.Chosen.{chosen}
 use Rattle.nw_orientation.specs.Moved.{moved, moved_line, touches, other_end, apart_marks, others, spokes, spoke_ends}
 use Rattle.nw_orientation.specs.Needed.{IsNeeded}
@@ -25,6 +25,7 @@ use Rattle.graph_core.proofs.WeightLaws.{nodes_agree, nodes_all}
 use Rattle.graph_core.proofs.TestSides.{side_of, length-side_of, has-side_of, same_sides, count-all}
 use Rattle.graph_core.proofs.SideLaws.{has-below, has-whole}
 use Rattle.graph_core.proofs.ProperLaws.{is_proper, node_in}
+use Rattle.graph_core.specs.Pairs.{apart}
 
 -- a side of the nodes that are left, as a side of all that misses z
 abbrev pub without : ℕ → ℕ → List Bool → List Bool

@@ -11,8 +11,9 @@ use Rattle.graph_core.proofs.GraphLaws.{all-priced, AreNumbers-none}
 use Rattle.graph_core.specs.Picked.{occurrences}
 use Rattle.graph_core.specs.declared.graph.Kind.TheVariants.{Undirected}
 use Rattle.graph_core.specs.declared.graph.Line.{Line}
+use Rattle.graph_core.specs.Pairs.{apart}
 use Rattle.cut_fn.specs.declared.stars.Star.{Star}
-use Rattle.split_undirected.specs.Split.{ends_at, apart, CanBeSplit, IsSplit}
+use Rattle.split_undirected.specs.Split.{ends_at, CanBeSplit, IsSplit}
 use Rattle.split_undirected.proofs.PairLaws.{half_as_many}
 use Rattle.nw_orientation.specs.Chosen.{chosen}
 use Rattle.nw_orientation.specs.Moved.{moved, moved_line, touches, other_end, apart_marks, others, spokes, spoke_ends}

@@ -5,8 +5,9 @@ use Rattle.graph_core.specs.Graph.{GraphValue, Fits, lines_of}
 use Rattle.graph_core.specs.Picked.{occurrences}
 use Rattle.graph_core.specs.declared.graph.Kind.TheVariants.{Undirected}
 use Rattle.graph_core.specs.declared.graph.Line.{Line}
+use Rattle.graph_core.specs.Pairs.{apart}
 use Rattle.problem_defs.specs.Orient.{turned}
-use Rattle.split_undirected.specs.Split.{ends_at, apart}
+use Rattle.split_undirected.specs.Split.{ends_at}
 use Rattle.cut_fn.specs.declared.stars.Star.{Star}
 use Rattle.nw_orientation.specs.Chosen.{chosen}
 use Rattle.nw_orientation.specs.Led.{arrives}

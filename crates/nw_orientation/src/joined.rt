@@ -1,4 +1,5 @@
 ghost use Rattle.std.specs.Prelude.{◌≡◌, ◌<◌, ◌≤◌, List, length, true, false, All, IfOk};
+ghost use Rattle.graph_core.specs.Limits.{line_room, node_room};
 ghost use Rattle.graph_core.specs.Graph.{Fits};
 ghost use Rattle.graph_core.specs.declared.graph.Kind.TheVariants.{Undirected};
 ghost use Rattle.flow_cuts.specs.GraphArcs.{arcs_of};
@@ -42,8 +43,8 @@ pub fn are_joined(
     b: u32,
     c: u64,
 ) -> Result<bool, NoMemory>
-    requires nodes { n ≤ 4096 }
-    requires few { length lines.now ≤ 65536 }
+    requires nodes { n ≤ node_room }
+    requires few { length lines.now ≤ line_room }
     requires ends { All (Fits n) lines.now }
     requires first { a < n }
     requires second { b < n }

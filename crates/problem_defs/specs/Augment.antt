@@ -1,6 +1,7 @@
 -- Fewest new edges that make a graph k-edge-connected (Watanabe and Nakamura 1987; Frank 1992).
 use Rattle.std.specs.Prelude.{ℕ, ◌≡◌, ◌-◌, ◌*◌, ◌≤◌, ◌==◌, false, Bool, cond, List, ◌++◌, length, All, sum_by}
 use Rattle.std.specs.Int.{div_ceil}
+use Rattle.graph_core.specs.Limits.{most_k}
 use Rattle.graph_core.specs.Graph.{GraphValue, Fits, lines_of}
 use Rattle.graph_core.specs.Lines.{degree, between}
 use Rattle.graph_core.specs.Families.{IsDisjointFamily, IsPartition}
@@ -13,7 +14,7 @@ pub mod Law
 
 pub record Suits (k : ℕ) (g : GraphValue) : Type 0 where
   pub low : 1 ≤ k
-  pub high : k ≤ 32
+  pub high : k ≤ most_k
   pub kind : g.kind ≡ Undirected
 
 -- pairs of different nodes that make the graph k-edge-connected

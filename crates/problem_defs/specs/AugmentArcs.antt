@@ -1,5 +1,6 @@
 -- Fewest new arcs that make a digraph k-arc-connected (Frank 1992).
 use Rattle.std.specs.Prelude.{ℕ, ◌≡◌, ◌-◌, ◌*◌, ◌≤◌, false, List, ◌++◌, length, All, sum_by}
+use Rattle.graph_core.specs.Limits.{most_k}
 use Rattle.graph_core.specs.Graph.{GraphValue, Fits, lines_of}
 use Rattle.graph_core.specs.Families.{IsDisjointFamily}
 use Rattle.graph_core.specs.Connected.{IsArcConnected}
@@ -13,7 +14,7 @@ pub mod Law
 
 pub record Suits (k : ℕ) (g : GraphValue) : Type 0 where
   pub low : 1 ≤ k
-  pub high : k ≤ 32
+  pub high : k ≤ most_k
   pub kind : g.kind ≡ Directed
 
 -- pairs of different nodes that make the digraph k-arc-connected

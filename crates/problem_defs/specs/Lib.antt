@@ -16,7 +16,6 @@ pub mod Impossible
 pub mod Meets
 pub mod NewLines
 pub mod Orient
-pub mod Pairs
 pub mod PartsDual
 pub mod Shaped
 pub mod Suited

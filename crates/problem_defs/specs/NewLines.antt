@@ -2,6 +2,7 @@
 use Rattle.std.proofs.Common.{ℕ, ◌*◌, ◌<◌, ◌≤◌, ◌^◌, List, [], ◌∷◌, All, arith}
 use Rattle.std.proofs.Math.Nat.{mul-le-mul_right}
 use Rattle.std.proofs.lemmas.List.Elements.{All-nil, All-cons, All-head, All-tail}
+use Rattle.graph_core.specs.Limits.{most_k, node_room}
 use Rattle.graph_core.specs.Graph.{Fits, line_of, lines_of}
 use Rattle.problem_defs.specs.Shaped.{AreNodes}
 
@@ -13,7 +14,7 @@ new-nodes n (p ∷ pairs) fit =
     All-cons (λ q. (q.0 < n) × (q.1 < n)) p pairs (here.tail, here.head) (new-nodes n pairs (All-tail (Fits n) (line_of p) (lines_of pairs) fit))
 
 -- what so many members ask for fits a number
-pub few_new : (k m : ℕ) → k ≤ 32 → m ≤ 4096 → k * m < 2 ^ 64
+pub few_new : (k m : ℕ) → k ≤ most_k → m ≤ node_room → k * m < 2 ^ 64
 few_new k m low many =
-    let first : k * m ≤ 32 * m = mul-le-mul_right m low in
+    let first : k * m ≤ most_k * m = mul-le-mul_right m low in
     omega (arith, first, many)

@@ -1,6 +1,7 @@
 -- When a certificate is shaped for a graph: its ask suits the graph, its body belongs to the ask, and what it names is there.
 use Rattle.std.specs.Prelude.{ℕ, ◌≡◌, ◌<◌, ◌^◌, Bool, List, length, All, None}
 use Rattle.graph_core.specs.Graph.{GraphValue}
+use Rattle.graph_core.specs.Pairs.{AreIn}
 use Rattle.problem_defs.specs.Ask.{misfit_of, KIsInRange}
 use Rattle.problem_defs.specs.declared.ask.Ask.{Ask}
 use Rattle.problem_defs.specs.declared.ask.Ask.TheVariants.{Flow, CutTree, Augment, AugmentArcs, Arborescences, Trees, Forests, Orient, Dijoin}
@@ -43,7 +44,7 @@ DualIsInRange n (InducedSide side) = length side ≡ n
 DualIsInRange n NoDual = Unit {0}
 
 abbrev pub IsInRange : ℕ → ℕ → Body → Type 0
-IsInRange n m (Tree pairs) = All (λ p. (p.0 < n) × (p.1 < n)) pairs
+IsInRange n m (Tree pairs) = AreIn n pairs
 IsInRange n m (Turned heads) = length heads ≡ m
 IsInRange n m (Walks value rows cut) = AreRows m rows × (length cut ≡ n)
 IsInRange n m (Edges value pairs sides) = AreNodes n pairs × AreSides n sides

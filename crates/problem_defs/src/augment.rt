@@ -4,6 +4,7 @@ ghost use Rattle.problem_defs.specs.declared.cert.Body.TheVariants as bodies;
 ghost use Rattle.std.specs.Prelude.{◌≡◌, ◌≤◌, ℕ, length, false};
 ghost use Rattle.problem_defs.specs.Augment.{half_bound, problem, IsDual};
 ghost use Rattle.problem_defs.specs.Augment.Law.{law};
+ghost use Rattle.graph_core.specs.Limits.{most_k};
 
 use crate::ask::Ask;
 use crate::cert::Body;
@@ -54,7 +55,7 @@ impl Problem for AugmentAsk {
 #[tactic(auto, using(crate::specs::Augment::Law::few_members))]
 fn half_bound(graph: &Graph, k: u32, sides: &Sides) -> u64
     requires low { 2 ≤ k }
-    requires high { k ≤ 32 }
+    requires high { k ≤ most_k }
     requires family { IsDual k graph.now sides.now }
     ensures { result ≡ half_bound k graph.now sides.now }
 {

@@ -5,6 +5,7 @@ ghost use Rattle.std.specs.Prelude.{◌≡◌, ◌≤◌, ℕ, length, false};
 ghost use Rattle.problem_defs.specs.AugmentArcs.{problem};
 ghost use Rattle.problem_defs.specs.AugmentArcs.Law.{law};
 ghost use Rattle.problem_defs.specs.Ways.{count_for};
+ghost use Rattle.graph_core.specs.Limits.{line_room};
 
 use crate::ask::Ask;
 use crate::cert::{Body, Family, Way};
@@ -58,7 +59,7 @@ impl Problem for AugmentArcsAsk {
 fn count_for(graph: &Graph, way: Way, side: &Side) -> u64
     requires { length side.now ≡ length graph.now.names }
     ensures count { result ≡ count_for way graph.now.lines side.now }
-    ensures within { result ≤ 65536 }
+    ensures within { result ≤ line_room }
 {
     match way {
         Way::Entering => graph.entering(side),

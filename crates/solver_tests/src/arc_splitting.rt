@@ -2,7 +2,7 @@
 
 ghost use Rattle.std.specs.Prelude.{◌≡◌, ◌+◌, ◌≤◌, [], ◌∷◌, true, length, sum, IfOk};
 ghost use Rattle.cut_fn.specs.Covered.{IsCovered};
-ghost use Rattle.cut_fn.specs.Stars.{star_enter, star_leave};
+ghost use Rattle.cut_fn.specs.Stars.{star_of, star_enter, star_leave};
 
 use crate::asserts::same;
 use cut_fn::{ArcStar, CutFn, StarEnter, StarLeave};
@@ -46,8 +46,8 @@ fn two_alone(rt: &impl Abort, alloc: Global) -> Result<ArcStar, Fail>
     ensures nodes { IfOk result (λ star. length star.graph.names ≡ 2) }
     ensures room { IfOk result (λ star. length star.graph.lines + sum star.into ≤ 65536) }
     ensures same { IfOk result (λ star. sum star.into ≡ sum star.out) }
-    ensures enters { IfOk result (λ star. IsCovered 2 2 (star_enter star)) }
-    ensures leaves { IfOk result (λ star. IsCovered 2 2 (star_leave star)) }
+    ensures enters { IfOk result (λ star. IsCovered 2 2 (star_enter (star_of star))) }
+    ensures leaves { IfOk result (λ star. IsCovered 2 2 (star_leave (star_of star))) }
 {
     let graph = graph_of(alloc, TWO_ALONE)?;
     assert!(rt; graph.node_count() == 2 && graph.line_count() == 0);

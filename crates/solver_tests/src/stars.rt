@@ -2,7 +2,7 @@
 
 ghost use Rattle.std.specs.Prelude.{◌≡◌, ◌≤◌, IfOk, length};
 ghost use Rattle.cut_fn.specs.Covered.{AreTight, IsCovered, IsTight};
-ghost use Rattle.cut_fn.specs.Stars.{star_cut, star_enter};
+ghost use Rattle.cut_fn.specs.Stars.{star_cut, star_enter, star_of};
 
 use crate::asserts::same;
 use crate::flows::{is_side_of, side_of};
@@ -221,7 +221,7 @@ fn merges(
     cross: Option<(usize, usize)>,
     want: &[&[u32]],
 ) -> Result<(), Fail>
-    requires { IsCovered (length star.now.graph.names) 2 (star_enter star.now) }
+    requires { IsCovered (length star.now.graph.names) 2 (star_enter (star_of star.now)) }
 {
     let enter = StarEnter::new(star);
     let mut family = tight_sides(alloc, &enter, 2, sides)?;

@@ -22,7 +22,7 @@ use Rattle.flow_cuts.specs.NewNode.{arc_by}
 use Rattle.flow_cuts.proofs.NewNodes.{capacity-arcs_by, ends-arcs_by}
 use Rattle.split_directed.specs.Ways.{counts_for, value_for, end_of, arc_of, arcs_between}
 use Rattle.split_directed.specs.Rows.{lowered, split, copies}
-use Rattle.split_directed.specs.StarValue.{StarValue}
+use Rattle.cut_fn.specs.Stars.{StarValue}
 use Rattle.split_directed.specs.State.{Shows}
 use Rattle.split_directed.proofs.Splits.{entering-copies, leaving-copies, lowered_sum}
 

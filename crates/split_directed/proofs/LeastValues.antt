@@ -8,7 +8,7 @@ use Rattle.graph_core.proofs.NodeCounts.{some_outside}
 use Rattle.graph_core.proofs.SideLaws.{has-none}
 use Rattle.graph_core.proofs.PutLaws.{put_here, put_kept}
 use Rattle.graph_core.proofs.ProperLaws.{is_proper}
-use Rattle.flow_cuts.specs.Cuts.{IsWithin}
+use Rattle.cut_fn.specs.TwoSides.{IsWithin}
 use Rattle.flow_cuts.specs.LeastMissing.{HasMissing, IsLeastMissing}
 use Rattle.split_directed.specs.declared.half.Half.{Half}
 use Rattle.split_directed.specs.Half.{value}

@@ -12,7 +12,7 @@ use Rattle.graph_core.specs.Lines.{entering, leaving, enters, leaves}
 use Rattle.graph_core.proofs.Counting.{weight}
 use Rattle.flow_cuts.specs.Network.{across}
 use Rattle.split_directed.specs.Rows.{copies, lowered, split}
-use Rattle.split_directed.specs.StarValue.{StarValue, enter, leave}
+use Rattle.cut_fn.specs.Stars.{StarValue, star_enter, star_leave}
 use Rattle.graph_core.proofs.NodeCounts.{nodes_lowered}
 
 times_weight : (a b : Bool) (c : ℕ) → c * weight (a && not b) ≡ across a b c
@@ -77,8 +77,8 @@ pub record Falls (n : ℕ) (s s' : StarValue) (u t c : ℕ) : Type 0 where
   pub fits : All (Fits n) s.lines → All (Fits n) s'.lines
   pub into_long : length s'.into ≡ length s.into
   pub out_long : length s'.out ≡ length s.out
-  pub enters : (X : List Bool) → length X ≡ n → enter s' X + cond (has X u && has X t) c 0 ≡ enter s X
-  pub leaves : (X : List Bool) → length X ≡ n → leave s' X + cond (has X u && has X t) c 0 ≡ leave s X
+  pub enters : (X : List Bool) → length X ≡ n → star_enter s' X + cond (has X u && has X t) c 0 ≡ star_enter s X
+  pub leaves : (X : List Bool) → length X ≡ n → star_leave s' X + cond (has X u && has X t) c 0 ≡ star_leave s X
   pub into_here : slice_index s'.into t + c ≡ slice_index s.into t
   pub out_here : slice_index s'.out u + c ≡ slice_index s.out u
   pub into_less : (v : ℕ) → slice_index s'.into v ≤ slice_index s.into v

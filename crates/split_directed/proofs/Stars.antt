@@ -11,10 +11,10 @@ use Rattle.problem_defs.specs.declared.cert.Way.TheVariants.{Entering, Leaving}
 use Rattle.problem_defs.specs.Ways.{opposite}
 use Rattle.split_directed.specs.Ways.{same, counts_for, value_for, taken_in}
 use Rattle.split_directed.specs.Allowed.{Allows, IsMost}
-use Rattle.split_directed.specs.StarValue.{StarValue, enter, leave}
+use Rattle.cut_fn.specs.Stars.{StarValue, star_enter, star_leave}
 use Rattle.split_directed.specs.Least.{HasBoth, IsLeastOver, MissesCount}
 use Rattle.split_directed.specs.State.{IsCoveredStar}
-use Rattle.split_directed.specs.Turn.{IsMostUpTo, IsWitness, IsLeft}
+use Rattle.split_directed.specs.Turn.{IsFewest, IsMostUpTo, IsWitness, IsLeft}
 use Rattle.graph_core.proofs.NodeCounts.{some_outside}
 use Rattle.cut_fn.proofs.Opposite.{lines_opposite}
 use Rattle.split_directed.proofs.Mader.{AreCovered, turn_about, missed_count, joined_tight, nested, missed_first, missed_second}
@@ -35,7 +35,7 @@ module _ {n k : ℕ} {s : StarValue} (c : IsCoveredStar n k s) where
   misses Leaving u t b stop lu lt le X x hu ht short = missed_count (covered_leave c) X u b x hu lu (omega (arith, short))
 
   -- the two least values, one after the other
-  pub most_found : {u t b a a' : ℕ} {X X' : List Bool} → IsLeastOver n (enter s) u t (k + b) a X → IsLeastOver n (leave s) u t a a' X' → (a ≤ a' → X' ≡ X)
+  pub most_found : {u t b a a' : ℕ} {X X' : List Bool} → IsLeastOver n (star_enter s) u t (k + b) a X → IsLeastOver n (star_leave s) u t a a' X' → (a ≤ a' → X' ≡ X)
       → (w : Way) → (a' < a → w ≡ Leaving) → (a ≤ a' → w ≡ Entering) → IsMostUpTo n k s u t b (a' - k) w X'
   most_found {u} {t} {b} {a} {a'} {X} {X'} e l kept w w_leaving w_entering = record {
     within = omega (arith, e.stopped, l.stopped);
@@ -44,7 +44,7 @@ module _ {n k : ℕ} {s : StarValue} (c : IsCoveredStar n k s) where
     blocked = λ short. elim (cases_lt a' a) [
       | inl lt ↦ (let b = l.reached lt in subst (λ v. HasBoth n (value_for v s) u t (k + (a' - k)) X') (sym (w_leaving lt)) (record { proper = b.proper; first = b.first; second = b.second; value_is = b.value_is ∙ omega (arith, above) }))
       | inr ge ↦ (let b = e.reached (omega (arith, short, ge)) in
-          subst (λ v. HasBoth n (value_for v s) u t (k + (a' - k)) X') (sym (w_entering ge)) (subst (HasBoth n (enter s) u t (k + (a' - k))) (sym (kept ge)) (record { proper = b.proper; first = b.first; second = b.second; value_is = b.value_is ∙ omega (arith, above, l.stopped, ge) })))
+          subst (λ v. HasBoth n (value_for v s) u t (k + (a' - k)) X') (sym (w_entering ge)) (subst (HasBoth n (star_enter s) u t (k + (a' - k))) (sym (kept ge)) (record { proper = b.proper; first = b.first; second = b.second; value_is = b.value_is ∙ omega (arith, above, l.stopped, ge) })))
     ];
   }
     where
@@ -55,11 +55,10 @@ module _ {n k : ℕ} {s : StarValue} (c : IsCoveredStar n k s) where
       above = elim (cases_lt a' a) [ inl lt ↦ (let h = l.reached lt in omega (arith, h.value_is, c.leaves X' h.proper)) | inr ge ↦ omega (arith, above_a) ]
 
   -- up to the smaller count it is the most of all
-  pub most_of_all : {u t b q : ℕ} {w : Way} {X : List Bool} → IsMostUpTo n k s u t b q w X → b ≤ slice_index s.out u → b ≤ slice_index s.into t
-      → ((d : ℕ) → d ≤ slice_index s.out u → d ≤ slice_index s.into t → d ≤ b) → IsMost n k s u t q
-  most_of_all {u} {t} {b} {q} {w} {X} m lu lt least = record {
-    allowed = record { out = omega (arith, m.within); into = omega (arith, m.within); enters = m.enters; leaves = m.leaves };
-    most = λ d a. elim (cases_lt q d) [ inr ge ↦ ge | inl more ↦ absurd (no_more d a more (m.blocked (omega (arith, least d a.out a.into))) w refl) ];
+  pub most_of_all : {u t b q : ℕ} {w : Way} {X : List Bool} → IsMostUpTo n k s u t b q w X → IsFewest s.out s.into u t b → IsMost n k s u t q
+  most_of_all {u} {t} {b} {q} {w} {X} m few = record {
+    allowed = record { out = omega (arith, m.within, few.out_most); into = omega (arith, m.within, few.into_most); enters = m.enters; leaves = m.leaves };
+    most = λ d a. elim (cases_lt q d) [ inr ge ↦ ge | inl more ↦ absurd (no_more d a more (m.blocked (omega (arith, few.greatest d a.out a.into))) w refl) ];
   }
     where
       no_more : (d : ℕ) → Allows n k s u t d → q < d → HasBoth n (value_for w s) u t (k + q) X → (v : Way) → v ≡ w → ⊥
@@ -120,8 +119,8 @@ module _ {n k : ℕ} {s : StarValue} (c : IsCoveredStar n k s) where
 
   -- what stays covered and tight after u and t were split off as often as is allowed
   module _ {s' : StarValue} {u t q : ℕ} (f : Falls n s s' u t q) where
-    pub covered_after : ((X : List Bool) → IsProper n X → has X u ≡ true → has X t ≡ true → k + q ≤ enter s X)
-        → ((X : List Bool) → IsProper n X → has X u ≡ true → has X t ≡ true → k + q ≤ leave s X) → IsCoveredStar n k s'
+    pub covered_after : ((X : List Bool) → IsProper n X → has X u ≡ true → has X t ≡ true → k + q ≤ star_enter s X)
+        → ((X : List Bool) → IsProper n X → has X u ≡ true → has X t ≡ true → k + q ≤ star_leave s X) → IsCoveredStar n k s'
     covered_after enters leaves = record {
       fits = f.fits c.fits;
       into_long = f.into_long ∙ c.into_long;

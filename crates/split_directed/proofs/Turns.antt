@@ -14,9 +14,9 @@ use Rattle.problem_defs.specs.declared.cert.Way.{Way}
 use Rattle.split_directed.specs.Ways.{taken_in, value_for}
 use Rattle.split_directed.specs.Allowed.{IsMost}
 use Rattle.split_directed.specs.Rows.{after, AreMost}
-use Rattle.split_directed.specs.StarValue.{StarValue}
+use Rattle.cut_fn.specs.Stars.{StarValue}
 use Rattle.split_directed.specs.State.{rows_with, IsCoveredStar}
-use Rattle.split_directed.specs.Turn.{IsMostUpTo, IsWitness, IsLeft, AreOnce, IsBefore, IsTurn, IsStep}
+use Rattle.split_directed.specs.Turn.{IsFewest, IsMostUpTo, IsWitness, IsLeft, AreOnce, IsBefore, IsTurn, IsStep}
 use Rattle.split_directed.proofs.Rows.{after-push, most-push}
 use Rattle.split_directed.proofs.Splits.{Falls, falls_split, falls_none}
 use Rattle.split_directed.proofs.Stars.{most_of_all, left_outside, Taken, taken, covered_after, tight_without, tight_both}
@@ -81,14 +81,12 @@ turn_next {n} {k} {t} {s} {rows} turn l some =
 
 module _ {n k t : ℕ} {s : StarValue} {rows : List (ℕ × ℕ × ℕ)} {w : Way} {M : List Bool} (turn : IsTurn n k t s rows w M) (u b q : ℕ) (w' : Way) (X : List Bool)
     (left : IsLeft (after s rows).out M u) (node : t < n) (some : 1 ≤ slice_index (after s rows).into t)
-    (b_out : b ≤ slice_index (after s rows).out u) (b_into : b ≤ slice_index (after s rows).into t)
-    (b_least : (d : ℕ) → d ≤ slice_index (after s rows).out u → d ≤ slice_index (after s rows).into t → d ≤ b)
-    (most : IsMostUpTo n k (after s rows) u t b q w' X) where
+    (few : IsFewest (after s rows).out (after s rows).into u t b) (most : IsMostUpTo n k (after s rows) u t b q w' X) where
   below : u < n
   below = omega (arith, left.below, turn.covered.out_long)
 
   fall : Falls n (after s rows) (after s (rows_with rows u t q)) u t q
-  fall = falls-with s rows u t q turn.covered.into_long turn.covered.out_long below node (omega (arith, most.within, b_into)) (omega (arith, most.within, b_out))
+  fall = falls-with s rows u t q turn.covered.into_long turn.covered.out_long below node (omega (arith, most.within, few.into_most)) (omega (arith, most.within, few.out_most))
 
   covered_next : IsCoveredStar n k (after s (rows_with rows u t q))
   covered_next = covered_after turn.covered fall most.enters most.leaves
@@ -110,7 +108,7 @@ module _ {n k t : ℕ} {s : StarValue} {rows : List (ℕ × ℕ × ℕ)} {w : Wa
   kept_with w2 N witness kept new = record {
     covered = covered_next;
     same = same_next;
-    most = most-with n k s rows u t q turn.most below node (most_of_all turn.covered most b_out b_into b_least);
+    most = most-with n k s rows u t q turn.most below node (most_of_all turn.covered most few);
     once = once-with rows u t q turn.once (λ j d l first second. absurd (cc (turn.tried j d l second some (rw first left.some), ap (has M) first ∙ left.outside)));
     upto = all-with (λ r. r.1 ≤ t) rows u t q turn.upto (omega arith);
     done = λ v l. omega (arith, fall.into_less v, turn.done v l);
@@ -124,8 +122,8 @@ module _ {n k t : ℕ} {s : StarValue} {rows : List (ℕ × ℕ × ℕ)} {w : Wa
   -- a count is used up
   pub step_used : b ≤ q → IsStep n k t s rows (rows_with rows u t q) M w M
   step_used used = record {
-    turn = kept_with w M witness_kept (λ v h. h) (λ i o. absurd (omega (arith, b_least (q + 1) (omega (arith, fall.out_here)) (omega (arith, fall.into_here)))));
-    less = omega (arith, fall.out_sum, b_least 1 left.some some);
+    turn = kept_with w M witness_kept (λ v h. h) (λ i o. absurd (omega (arith, few.greatest (q + 1) (omega (arith, fall.out_here)) (omega (arith, fall.into_here)))));
+    less = omega (arith, fall.out_sum, few.greatest 1 left.some some);
   }
 
   -- a side allows no more, and is taken in
@@ -133,7 +131,7 @@ module _ {n k t : ℕ} {s : StarValue} {rows : List (ℕ × ℕ × ℕ)} {w : Wa
   step_blocked short =
       let h = most.blocked short in
       let N = taken_in w M w' X t in
-      let x = taken covered_next w' X same_next (omega (arith, fall.into_here, b_into)) witness_kept (tight_both turn.covered fall w' X h) h.second h.first left.outside in
+      let x = taken covered_next w' X same_next (omega (arith, fall.into_here, few.into_most)) witness_kept (tight_both turn.covered fall w' X h) h.second h.first left.outside in
       record {
         turn = kept_with w' N x.witness x.kept (λ i o. x.new);
         less = omega (arith, fall.out_sum, size_more M N u (turn.witness.long ∙ sym x.witness.long) x.kept left.outside x.new);

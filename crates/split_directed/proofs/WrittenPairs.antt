@@ -1,47 +1,47 @@
--- The rows of a star that is wholly split off, written out as pairs.
-use Rattle.std.specs.Prelude.{ℕ, zero, suc, ◌≡◌, ◌≢◌, ◌+◌, ◌-◌, ◌*◌, ◌<◌, ◌≤◌, ◌==◌, ◌⊎◌, Bool, true, false, not, List, [], ◌∷◌, ◌++◌, length, replicate, slice_index, sum, count_by, All, refl}
-use Rattle.std.specs.List.{flat_map}
+-- The rows of a star that is wholly split off, and their pairs.
+use Rattle.std.specs.Prelude.{ℕ, zero, suc, ◌≡◌, ◌≢◌, ◌+◌, ◌-◌, ◌*◌, ◌<◌, ◌≤◌, ◌==◌, ◌⊎◌, Bool, true, false, not, List, [], ◌∷◌, ◌++◌, length, replicate, slice_index, sum, count_by, All, AllPairs, refl}
 use Rattle.std.proofs.Common.{sym, ap, ◌∙◌, inl, inr, arith, length-append}
 use Rattle.std.proofs.lemmas.Bool.{cases_Bool, cases_eq, cases_lt, eq-eqb, ne_eqb}
 use Rattle.std.proofs.lemmas.List.{get_or-set_other, get_or_past, length-replicate, map-append}
 use Rattle.std.proofs.lemmas.List.Elements.{All-nil, All-append, All-head, All-replicate, All-tail, filter-append}
 use Rattle.std.proofs.lemmas.List.Folds.{sum_by-replicate}
-use Rattle.std.proofs.lemmas.List.Sums.{sum_by-append, sum_by-cons}
+use Rattle.std.proofs.lemmas.List.Sums.{sum_by-append, get_or-le-sum_by}
 use Rattle.graph_core.specs.Side.{has, sum_over}
 use Rattle.graph_core.specs.Graph.{line_of, lines_of}
 use Rattle.graph_core.specs.Lines.{entering, enters}
 use Rattle.graph_core.proofs.Counting.{weight}
-use Rattle.split_directed.specs.Allowed.{Allows, IsMost}
+use Rattle.graph_core.specs.Pairs.{apart, IsRow, pairs_of}
+use Rattle.split_directed.specs.Allowed.{Allows}
 use Rattle.split_directed.specs.Rows.{copies, lowered, split, after, AreMost, SplitOff}
-use Rattle.split_directed.specs.StarValue.{StarValue}
-use Rattle.split_directed.specs.Pairs.{apart, AreHeadsTight, AreTailsTight, SplitInto}
+use Rattle.split_directed.proofs.Rows.{first_row, first_most, other_rows, sum_none}
+use Rattle.cut_fn.specs.Stars.{StarValue}
+use Rattle.split_directed.specs.Pairs.{AreHeadsTight, AreTailsTight, SplitInto}
 use Rattle.split_directed.specs.State.{IsCoveredStar}
 use Rattle.split_directed.proofs.Splits.{Falls, falls_split, lowered_here}
 use Rattle.split_directed.proofs.Stars.{covered_after}
 
--- the rows written out: (u, t, c) as c pairs (u, t)
-abbrev pub written : List (ℕ × ℕ × ℕ) → List (ℕ × ℕ)
-written rows = flat_map (λ r. replicate r.2 (r.0, r.1)) rows
-
 -- a row that is the most keeps the star covered
-row_falls : {n k : ℕ} {s : StarValue} (r : ℕ × ℕ × ℕ) → IsCoveredStar n k s → r.0 < n → r.1 < n → IsMost n k s r.0 r.1 r.2
-    → Falls n s (split s r.0 r.1 r.2) r.0 r.1 r.2
-row_falls {n} {k} {s} r c lu lt m = falls_split s r.0 r.1 r.2 c.into_long c.out_long lu lt m.allowed.into m.allowed.out
+module _ {n k : ℕ} {s : StarValue} {rows : List (ℕ × ℕ × ℕ)} (r : ℕ × ℕ × ℕ) (c : IsCoveredStar n k s) (h : AreMost n k s (r ∷ rows)) where
+  row_falls : Falls n s (split s r.0 r.1 r.2) r.0 r.1 r.2
+  row_falls =
+      let row = first_row h in
+      let m = first_most h in
+      falls_split s r.0 r.1 r.2 c.into_long c.out_long row.first row.second m.allowed.into m.allowed.out
 
-row_covered : {n k : ℕ} {s : StarValue} (r : ℕ × ℕ × ℕ) → IsCoveredStar n k s → r.0 < n → r.1 < n → IsMost n k s r.0 r.1 r.2
-    → IsCoveredStar n k (split s r.0 r.1 r.2)
-row_covered r c lu lt m = covered_after c (row_falls r c lu lt m) m.allowed.enters m.allowed.leaves
+  row_covered : IsCoveredStar n k (split s r.0 r.1 r.2)
+  row_covered = let m = first_most h in covered_after c row_falls m.allowed.enters m.allowed.leaves
 
 pub covered_rows : {n k : ℕ} (rows : List (ℕ × ℕ × ℕ)) (s : StarValue) → IsCoveredStar n k s → AreMost n k s rows → IsCoveredStar n k (after s rows)
 covered_rows [] s c h = c
-covered_rows (r ∷ rows) s c h = covered_rows rows (split s r.0 r.1 r.2) (row_covered r c h.0 h.1 h.3) h.4
+covered_rows (r ∷ rows) s c h = covered_rows rows (split s r.0 r.1 r.2) (row_covered r c h) (other_rows h)
 
 -- the nodes of the pairs
-nodes_written : (n k : ℕ) (rows : List (ℕ × ℕ × ℕ)) (s : StarValue) → AreMost n k s rows → All (λ p. (p.0 < n) × (p.1 < n)) (written rows)
-nodes_written n k [] s h = All-nil (λ (p : ℕ × ℕ). (p.0 < n) × (p.1 < n))
-nodes_written n k (r ∷ rows) s h =
-    All-append (λ p. (p.0 < n) × (p.1 < n)) (replicate r.2 (r.0, r.1)) (written rows)
-    (All-replicate (λ p. (p.0 < n) × (p.1 < n)) r.2 (r.0, r.1) (h.0, h.1)) (nodes_written n k rows (split s r.0 r.1 r.2) h.4)
+nodes_written : (n : ℕ) (rows : List (ℕ × ℕ × ℕ)) → All (IsRow n) rows → All (λ p. (p.0 < n) × (p.1 < n)) (pairs_of rows)
+nodes_written n [] h = All-nil (λ (p : ℕ × ℕ). (p.0 < n) × (p.1 < n))
+nodes_written n (r ∷ rows) h =
+    let row = All-head (IsRow n) r rows h in
+    All-append (λ p. (p.0 < n) × (p.1 < n)) (replicate r.2 (r.0, r.1)) (pairs_of rows)
+    (All-replicate (λ p. (p.0 < n) × (p.1 < n)) r.2 (r.0, r.1) (row.first, row.second)) (nodes_written n rows (All-tail (IsRow n) r rows h))
 
 -- a count falls by the copies of its node
 lowered_by : (counts : List ℕ) (u c v : ℕ) → u < length counts → c ≤ slice_index counts u
@@ -53,45 +53,45 @@ lowered_by counts u c v l le = go (cases_eq v u)
     go (inr ne) = rw (ne_eqb u v (λ e. ne (sym e))) (omega (arith, get_or-set_other counts u v (slice_index counts u - c) 0 ne))
 
 out_written : {n k : ℕ} (v : ℕ) (rows : List (ℕ × ℕ × ℕ)) (s : StarValue) → IsCoveredStar n k s → AreMost n k s rows
-    → count_by (λ p. p.0 == v) (written rows) + slice_index (after s rows).out v ≡ slice_index s.out v
+    → count_by (λ p. p.0 == v) (pairs_of rows) + slice_index (after s rows).out v ≡ slice_index s.out v
 out_written v [] s c h = omega arith
 out_written v (r ∷ rows) s c h =
-    let rest = out_written v rows (split s r.0 r.1 r.2) (row_covered r c h.0 h.1 h.3) h.4 in
-    let l = h.0 in
-    let m = h.3 in
+    let rest = out_written v rows (split s r.0 r.1 r.2) (row_covered r c h) (other_rows h) in
+    let l = (first_row h).first in
+    let m = first_most h in
     omega (
       arith,
       rest,
-      sum_by-append (λ (p : ℕ × ℕ). weight (p.0 == v)) (replicate r.2 (r.0, r.1)) (written rows),
+      sum_by-append (λ (p : ℕ × ℕ). weight (p.0 == v)) (replicate r.2 (r.0, r.1)) (pairs_of rows),
       sum_by-replicate (λ (p : ℕ × ℕ). weight (p.0 == v)) r.2 (r.0, r.1),
       lowered_by s.out r.0 r.2 v (omega (arith, c.out_long, l)) m.allowed.out,
     )
 
 into_written : {n k : ℕ} (v : ℕ) (rows : List (ℕ × ℕ × ℕ)) (s : StarValue) → IsCoveredStar n k s → AreMost n k s rows
-    → count_by (λ p. p.1 == v) (written rows) + slice_index (after s rows).into v ≡ slice_index s.into v
+    → count_by (λ p. p.1 == v) (pairs_of rows) + slice_index (after s rows).into v ≡ slice_index s.into v
 into_written v [] s c h = omega arith
 into_written v (r ∷ rows) s c h =
-    let rest = into_written v rows (split s r.0 r.1 r.2) (row_covered r c h.0 h.1 h.3) h.4 in
-    let l = h.1 in
-    let m = h.3 in
+    let rest = into_written v rows (split s r.0 r.1 r.2) (row_covered r c h) (other_rows h) in
+    let l = (first_row h).second in
+    let m = first_most h in
     omega (
       arith,
       rest,
-      sum_by-append (λ (p : ℕ × ℕ). weight (p.1 == v)) (replicate r.2 (r.0, r.1)) (written rows),
+      sum_by-append (λ (p : ℕ × ℕ). weight (p.1 == v)) (replicate r.2 (r.0, r.1)) (pairs_of rows),
       sum_by-replicate (λ (p : ℕ × ℕ). weight (p.1 == v)) r.2 (r.0, r.1),
       lowered_by s.into r.1 r.2 v (omega (arith, c.into_long, l)) m.allowed.into,
     )
 
 many_written : {n k : ℕ} (rows : List (ℕ × ℕ × ℕ)) (s : StarValue) → IsCoveredStar n k s → AreMost n k s rows
-    → length (written rows) + sum (after s rows).into ≡ sum s.into
+    → length (pairs_of rows) + sum (after s rows).into ≡ sum s.into
 many_written [] s c h = omega arith
 many_written (r ∷ rows) s c h =
-    let next = row_covered r c h.0 h.1 h.3 in
-    let fall = row_falls r c h.0 h.1 h.3 in
+    let next = row_covered r c h in
+    let fall = row_falls r c h in
     omega (
       arith,
-      many_written rows (split s r.0 r.1 r.2) next h.4,
-      length-append (replicate r.2 (r.0, r.1)) (written rows),
+      many_written rows (split s r.0 r.1 r.2) next (other_rows h),
+      length-append (replicate r.2 (r.0, r.1)) (pairs_of rows),
       length-replicate {A = ℕ × ℕ} r.2 (r.0, r.1),
       fall.into_sum,
     )
@@ -113,27 +113,24 @@ lines_apart c u t = go (cases_Bool (u == t))
     go (inr e) = all c e ∙ sym (rw e refl)
 
 lines_written : (X : List Bool) (rows : List (ℕ × ℕ × ℕ)) (s : StarValue)
-    → entering X s.lines + entering X (lines_of (apart (written rows))) ≡ entering X (after s rows).lines
+    → entering X s.lines + entering X (lines_of (apart (pairs_of rows))) ≡ entering X (after s rows).lines
 lines_written X [] s = omega arith
 lines_written X (r ∷ rows) s =
     let first : List (ℕ × ℕ) = replicate r.2 (r.0, r.1) in
-    let parts : lines_of (apart (written (r ∷ rows))) ≡ copies r.0 r.1 r.2 ++ lines_of (apart (written rows)) =
-    ap lines_of (filter-append (λ (p : ℕ × ℕ). not (p.0 == p.1)) first (written rows)) ∙ map-append line_of (apart first) (apart (written rows)) ∙ ap (λ ls. ls ++ lines_of (apart (written rows))) (lines_apart r.2 r.0 r.1) in
+    let parts : lines_of (apart (pairs_of (r ∷ rows))) ≡ copies r.0 r.1 r.2 ++ lines_of (apart (pairs_of rows)) =
+    ap lines_of (filter-append (λ (p : ℕ × ℕ). not (p.0 == p.1)) first (pairs_of rows)) ∙ map-append line_of (apart first) (apart (pairs_of rows)) ∙ ap (λ ls. ls ++ lines_of (apart (pairs_of rows))) (lines_apart r.2 r.0 r.1) in
     omega (
       arith,
       ap (entering X) parts,
-      sum_by-append (λ l. weight (enters X l)) (copies r.0 r.1 r.2) (lines_of (apart (written rows))),
+      sum_by-append (λ l. weight (enters X l)) (copies r.0 r.1 r.2) (lines_of (apart (pairs_of rows))),
       sum_by-append (λ l. weight (enters X l)) s.lines (copies r.0 r.1 r.2),
       lines_written X rows (split s r.0 r.1 r.2),
     )
 
-nothing_over : (X : List Bool) (counts : List ℕ) → All (λ c. c ≡ 0) counts → sum_over X (slice_index counts) ≡ 0
-nothing_over X counts none = go X (slice_index counts) (λ v. elim (cases_lt v (length counts)) [ inl l ↦ none v 0 l | inr past ↦ get_or_past counts v 0 past ])
-  where
-    go : (Y : List Bool) (w : ℕ → ℕ) → ((v : ℕ) → w v ≡ 0) → sum_over Y w ≡ 0
-    go [] w h = refl
-    go (true ∷ Y) w h = omega (arith, h 0, go Y (λ v. w (suc v)) (λ v. h (suc v)))
-    go (false ∷ Y) w h = omega (arith, go Y (λ v. w (suc v)) (λ v. h (suc v)))
+nothing_over : (X : List Bool) (w : ℕ → ℕ) → ((v : ℕ) → w v ≡ 0) → sum_over X w ≡ 0
+nothing_over [] w h = refl
+nothing_over (true ∷ X) w h = omega (arith, h 0, nothing_over X (λ v. w (suc v)) (λ v. h (suc v)))
+nothing_over (false ∷ X) w h = omega (arith, nothing_over X (λ v. w (suc v)) (λ v. h (suc v)))
 
 -- where the counts of one kind lie in tight sides, they stay there, and no row has one node twice
 module _ {n k : ℕ} {s s' : StarValue} {u t c : ℕ} (f : Falls n s s' u t c) (covered : IsCoveredStar n k s') where
@@ -158,40 +155,51 @@ tails_apart {n} {k} {u} {t} {c} {s} a some l h e =
     absurd (omega (arith, a.leaves X x.proper in_it (sym (ap (has X) e) ∙ in_it), x.value, some))
 
 different_written : {n k : ℕ} (rows : List (ℕ × ℕ × ℕ)) (s : StarValue) → IsCoveredStar n k s → AreMost n k s rows
-    → AreHeadsTight n k s ⊎ AreTailsTight n k s → All (λ p. p.0 ≢ p.1) (written rows)
+    → AreHeadsTight n k s ⊎ AreTailsTight n k s → All (λ p. p.0 ≢ p.1) (pairs_of rows)
 different_written [] s c h tight = All-nil (λ (p : ℕ × ℕ). p.0 ≢ p.1)
 different_written (r ∷ rows) s c h tight =
-    let fall = row_falls r c h.0 h.1 h.3 in
-    let next = row_covered r c h.0 h.1 h.3 in
-    let m = h.3 in
-    All-append (λ p. p.0 ≢ p.1) (replicate r.2 (r.0, r.1)) (written rows)
-    (All-replicate (λ p. p.0 ≢ p.1) r.2 (r.0, r.1) (elim tight [ inl heads ↦ heads_apart m.allowed h.2 h.1 heads | inr tails ↦ tails_apart m.allowed h.2 h.0 tails ]))
-    (different_written rows (split s r.0 r.1 r.2) next h.4 (elim tight [ inl heads ↦ inl (heads_stay fall next heads) | inr tails ↦ inr (tails_stay fall next tails) ]))
+    let fall = row_falls r c h in
+    let next = row_covered r c h in
+    let row = first_row h in
+    let m = first_most h in
+    All-append (λ p. p.0 ≢ p.1) (replicate r.2 (r.0, r.1)) (pairs_of rows)
+    (All-replicate (λ p. p.0 ≢ p.1) r.2 (r.0, r.1) (elim tight [ inl heads ↦ heads_apart m.allowed row.some row.second heads | inr tails ↦ tails_apart m.allowed row.some row.first tails ]))
+    (different_written rows (split s r.0 r.1 r.2) next (other_rows h) (elim tight [ inl heads ↦ inl (heads_stay fall next heads) | inr tails ↦ inr (tails_stay fall next tails) ]))
 
-none_left : (counts : List ℕ) → All (λ c. c ≡ 0) counts → sum counts ≡ 0
-none_left [] h = refl
-none_left (c ∷ counts) h = omega (arith, sum_by-cons (λ x. x) c counts, All-head (λ x. x ≡ 0) c counts h, none_left counts (All-tail (λ x. x ≡ 0) c counts h))
-
--- pairs of different nodes are all kept
-pub apart_all : (pairs : List (ℕ × ℕ)) → All (λ p. p.0 ≢ p.1) pairs → apart pairs ≡ pairs
-apart_all [] h = refl
-apart_all (p ∷ pairs) h =
-    rw (ne_eqb p.0 p.1 (All-head (λ q. q.0 ≢ q.1) p pairs h)) (ap (λ ps. p ∷ ps) (apart_all pairs (All-tail (λ q. q.0 ≢ q.1) p pairs h)))
-
-pub written_out : {n k : ℕ} {s : StarValue} (rows : List (ℕ × ℕ × ℕ)) → IsCoveredStar n k s → SplitOff n k s rows → SplitInto n k s (written rows)
-written_out {n} {k} {s} rows c off =
-    let last = covered_rows rows s c off.most in
+-- rows of the most each that leave none of the star split it off
+pub split_off : {n k : ℕ} {s : StarValue} {rows : List (ℕ × ℕ × ℕ)} → IsCoveredStar n k s → AreMost n k s rows
+    → AllPairs (λ p q. p.0 ≡ q.0 → p.1 ≢ q.1) rows → sum (after s rows).into ≡ sum (after s rows).out
+    → ((v : ℕ) → v < n → slice_index (after s rows).into v ≡ 0) → SplitOff n k s rows
+split_off {n} {k} {s} {rows} c most once same none =
+    let last = covered_rows rows s c most in
+    let into_none : (v : ℕ) → slice_index (after s rows).into v ≡ 0 =
+    λ v. elim (cases_lt v n) [ inl l ↦ none v l | inr past ↦ get_or_past (after s rows).into v 0 (omega (arith, last.into_long, past)) ] in
+    let spent = sum_none (after s rows).into (λ v l. into_none v) in
+    let out_none : (v : ℕ) → v < n → slice_index (after s rows).out v ≡ 0 =
+    λ v l. (let le = get_or-le-sum_by (λ x. x) (after s rows).out v 0 (omega (arith, last.out_long, l)) in omega (arith, le, same, spent)) in
     record {
-      nodes = nodes_written n k rows s off.most;
-      many = omega (arith, many_written rows s c off.most, none_left (after s rows).into off.spent.into);
-      out = λ v l. omega (arith, out_written v rows s c off.most, off.spent.out v 0 (omega (arith, last.out_long)));
-      into = λ v l. omega (arith, into_written v rows s c off.most, off.spent.into v 0 (omega (arith, last.into_long)));
+      most = most;
+      once = once;
+      out = λ v l. omega (arith, out_written v rows s c most, out_none v l);
+      into = λ v l. omega (arith, into_written v rows s c most, none v l);
       connected = λ X x. omega (
         arith,
         last.enters X x,
-        nothing_over X (after s rows).into off.spent.into,
+        nothing_over X (slice_index (after s rows).into) into_none,
         lines_written X rows s,
-        sum_by-append (λ l. weight (enters X l)) s.lines (lines_of (apart (written rows))),
+        sum_by-append (λ l. weight (enters X l)) s.lines (lines_of (apart (pairs_of rows))),
       );
+    }
+
+pub written_out : {n k : ℕ} {s : StarValue} (rows : List (ℕ × ℕ × ℕ)) → IsCoveredStar n k s → SplitOff n k s rows → SplitInto n k s (pairs_of rows)
+written_out {n} {k} {s} rows c off =
+    let last = covered_rows rows s c off.most in
+    let none = sum_none (after s rows).into (λ v l. omega (arith, into_written v rows s c off.most, off.into v (omega (arith, last.into_long, l)))) in
+    record {
+      nodes = nodes_written n rows off.most.each;
+      many = omega (arith, many_written rows s c off.most, none);
+      out = off.out;
+      into = off.into;
+      connected = off.connected;
       different = different_written rows s c off.most;
     }

@@ -3,7 +3,6 @@ pub mod Half
 pub mod Least
 pub mod Pairs
 pub mod Rows
-pub mod StarValue
 pub mod State
 pub mod Turn
 pub mod Ways

@@ -5,19 +5,19 @@ use Rattle.graph_core.specs.Side.{has}
 use Rattle.graph_core.specs.Graph.{lines_of}
 use Rattle.graph_core.specs.Connected.{IsArcConnected}
 use Rattle.cut_fn.specs.Covered.{IsTight}
-use Rattle.split_directed.specs.StarValue.{StarValue, enter, leave}
+use Rattle.cut_fn.specs.Stars.{StarValue, star_enter, star_leave}
 
 -- the pairs of different nodes
 abbrev pub apart : List (ℕ × ℕ) → List (ℕ × ℕ)
 apart pairs = filter (λ p. not (p.0 == p.1)) pairs
 
--- each node with an arc to it lies in a tight side of `enter`
+-- each node with an arc to it lies in a tight side of `star_enter`
 abbrev pub AreHeadsTight : ℕ → ℕ → StarValue → Type 0
-AreHeadsTight n k s = (v : ℕ) → v < n → 1 ≤ slice_index s.into v → (X : List Bool) × IsTight n k (enter s) X × (has X v ≡ true)
+AreHeadsTight n k s = (v : ℕ) → v < n → 1 ≤ slice_index s.into v → (X : List Bool) × IsTight n k (star_enter s) X × (has X v ≡ true)
 
--- each node with an arc from it lies in a tight side of `leave`
+-- each node with an arc from it lies in a tight side of `star_leave`
 abbrev pub AreTailsTight : ℕ → ℕ → StarValue → Type 0
-AreTailsTight n k s = (v : ℕ) → v < n → 1 ≤ slice_index s.out v → (X : List Bool) × IsTight n k (leave s) X × (has X v ≡ true)
+AreTailsTight n k s = (v : ℕ) → v < n → 1 ≤ slice_index s.out v → (X : List Bool) × IsTight n k (star_leave s) X × (has X v ≡ true)
 
 -- pairs (u, t) of an arc from u and one to t, which are the arcs of the star, and which connect the graph as arcs from u to t
 pub record SplitInto (n k : ℕ) (s : StarValue) (pairs : List (ℕ × ℕ)) : Type 0 where

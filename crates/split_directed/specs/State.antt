@@ -1,5 +1,6 @@
 -- What is left of a star that is being split off, and its two halves. No public clause cites it.
 use Rattle.std.specs.Prelude.{ℕ, ◌≡◌, ◌+◌, ◌≤◌, ◌==◌, List, [], ◌∷◌, ◌++◌, cond, length, sum, All}
+use Rattle.graph_core.specs.Limits.{line_room}
 use Rattle.graph_core.specs.Graph.{Fits}
 use Rattle.cut_fn.specs.Covered.{IsCovered}
 use Rattle.flow_cuts.specs.Network.{IsCutFunction}
@@ -11,7 +12,7 @@ use Rattle.split_directed.specs.Half.{IsHalf}
 use Rattle.problem_defs.specs.Ways.{count_for}
 use Rattle.split_directed.specs.Ways.{counts_for}
 use Rattle.split_directed.specs.Rows.{after}
-use Rattle.split_directed.specs.StarValue.{StarValue, star_of, enter, leave}
+use Rattle.cut_fn.specs.Stars.{StarValue, star_of, star_enter, star_leave}
 
 -- the star after the rows
 abbrev pub left_of : ArcStar → List (ℕ × ℕ × ℕ) → StarValue
@@ -26,7 +27,7 @@ pub record Shows (n : ℕ) (w : Way) (s : StarValue) (h : Half) : Type 0 where
   pub half : IsHalf n h
   pub cut : IsCutFunction h.arcs.items (count_for w s.lines)
   pub counts : h.counts.items ≡ counts_for w s
-  pub room : length h.arcs.items + sum s.into ≤ 65536
+  pub room : length h.arcs.items + sum s.into ≤ line_room
 
 pub record IsState (n : ℕ) (s : StarValue) (enter leave : Half) : Type 0 where
   pub entering : Shows n Entering s enter
@@ -37,5 +38,5 @@ pub record IsCoveredStar (n k : ℕ) (s : StarValue) : Type 0 where
   pub fits : All (Fits n) s.lines
   pub into_long : length s.into ≡ n
   pub out_long : length s.out ≡ n
-  pub enters : IsCovered n k (enter s)
-  pub leaves : IsCovered n k (leave s)
+  pub enters : IsCovered n k (star_enter s)
+  pub leaves : IsCovered n k (star_leave s)

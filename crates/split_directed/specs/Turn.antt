@@ -6,14 +6,20 @@ use Rattle.problem_defs.specs.declared.cert.Way.{Way}
 use Rattle.split_directed.specs.Ways.{value_for}
 use Rattle.split_directed.specs.Least.{HasBoth}
 use Rattle.split_directed.specs.Rows.{after, AreMost}
-use Rattle.split_directed.specs.StarValue.{StarValue, enter, leave}
+use Rattle.cut_fn.specs.Stars.{StarValue, star_enter, star_leave}
 use Rattle.split_directed.specs.State.{IsCoveredStar}
+
+-- b is the smaller of the counts of u and of t
+pub record IsFewest (out into : List ℕ) (u t b : ℕ) : Type 0 where
+  pub out_most : b ≤ slice_index out u
+  pub into_most : b ≤ slice_index into t
+  pub greatest : (d : ℕ) → d ≤ slice_index out u → d ≤ slice_index into t → d ≤ b
 
 -- c is the most up to b that u and t may be split off; where it is less than b, X is a side that allows no more
 pub record IsMostUpTo (n k : ℕ) (s : StarValue) (u t b c : ℕ) (w : Way) (X : List Bool) : Type 0 where
   pub within : c ≤ b
-  pub enters : (Y : List Bool) → IsProper n Y → has Y u ≡ true → has Y t ≡ true → k + c ≤ enter s Y
-  pub leaves : (Y : List Bool) → IsProper n Y → has Y u ≡ true → has Y t ≡ true → k + c ≤ leave s Y
+  pub enters : (Y : List Bool) → IsProper n Y → has Y u ≡ true → has Y t ≡ true → k + c ≤ star_enter s Y
+  pub leaves : (Y : List Bool) → IsProper n Y → has Y u ≡ true → has Y t ≡ true → k + c ≤ star_leave s Y
   pub blocked : c < b → HasBoth n (value_for w s) u t (k + c) X
 
 -- M is empty, or a tight side with t

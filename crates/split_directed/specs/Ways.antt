@@ -5,7 +5,7 @@ use Rattle.flow_cuts.specs.declared.network.Cap.{Cap}
 use Rattle.problem_defs.specs.Ways.{count_for}
 use Rattle.problem_defs.specs.declared.cert.Way.{Way}
 use Rattle.problem_defs.specs.declared.cert.Way.TheVariants.{Entering, Leaving}
-use Rattle.split_directed.specs.StarValue.{StarValue}
+use Rattle.cut_fn.specs.Stars.{StarValue}
 
 abbrev pub counts_for : Way → StarValue → List ℕ
 counts_for Entering s = s.into

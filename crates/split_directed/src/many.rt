@@ -1,11 +1,11 @@
 ghost use Rattle.std.specs.Prelude.{◌≡◌, ◌+◌, ◌^◌, ◌<◌, ◌≤◌, length, slice_index, sum, IfOk, OnOk};
 ghost use Rattle.cut_fn.specs.Covered.{IsCovered};
-ghost use Rattle.cut_fn.specs.Stars.{star_enter, star_leave};
 ghost use Rattle.split_directed.specs.Allowed.{IsMost};
 ghost use Rattle.split_directed.specs.Rows.{SplitOff};
-ghost use Rattle.split_directed.specs.StarValue.{star_of};
+ghost use Rattle.cut_fn.specs.Stars.{star_enter, star_leave, star_of};
 ghost use Rattle.split_directed.specs.State.{left_of, IsState};
 ghost use Rattle.split_directed.specs.Turn.{IsLeft, IsBefore, IsTurn, IsStep};
+ghost use Rattle.graph_core.specs.Limits.{line_room};
 
 use crate::state::{Splitting, Witness, fewest, most_up_to, next_node};
 use cut_fn::ArcStar;
@@ -71,10 +71,10 @@ fn split_at(alloc: Global, k: u64, t: u32, state: &mut Splitting) -> Result<(), 
 /// Splits off the whole star, in rows (u, t, c): an arc from u and one to t, c times. Each row has the most that may be split
 /// off in the star after the rows before it, so no pair of nodes stands in two (Mader 1982).
 pub fn split_many(alloc: Global, star: &ArcStar, k: u32) -> Result<WeightedPairs, NoMemory>
-    requires room { length star.now.graph.lines + sum star.now.into ≤ 65536 }
+    requires room { length star.now.graph.lines + sum star.now.into ≤ line_room }
     requires same { sum star.now.into ≡ sum star.now.out }
-    requires enters { IsCovered (length star.now.graph.names) k (star_enter star.now) }
-    requires leaves { IsCovered (length star.now.graph.names) k (star_leave star.now) }
+    requires enters { IsCovered (length star.now.graph.names) k (star_enter (star_of star.now)) }
+    requires leaves { IsCovered (length star.now.graph.names) k (star_leave (star_of star.now)) }
     ensures { IfOk result (SplitOff (length star.now.graph.names) k (star_of star.now)) }
 {
     star.graph.known();
@@ -87,11 +87,11 @@ pub fn split_many(alloc: Global, star: &ArcStar, k: u32) -> Result<WeightedPairs
 
 /// How often an arc from `u` and one to `t` may be split off, so that at least `k` arcs still enter and leave each proper side.
 pub fn most(alloc: Global, star: &ArcStar, k: u32, u: u32, t: u32) -> Result<u64, NoMemory>
-    requires room { length star.now.graph.lines + sum star.now.into ≤ 65536 }
+    requires room { length star.now.graph.lines + sum star.now.into ≤ line_room }
     requires u { u < length star.now.graph.names }
     requires t { t < length star.now.graph.names }
-    requires enters { IsCovered (length star.now.graph.names) k (star_enter star.now) }
-    requires leaves { IsCovered (length star.now.graph.names) k (star_leave star.now) }
+    requires enters { IsCovered (length star.now.graph.names) k (star_enter (star_of star.now)) }
+    requires leaves { IsCovered (length star.now.graph.names) k (star_leave (star_of star.now)) }
     ensures { IfOk result (IsMost (length star.now.graph.names) k (star_of star.now) u t) }
 {
     star.graph.known();

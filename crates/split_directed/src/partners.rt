@@ -1,8 +1,8 @@
 ghost use Rattle.std.specs.Prelude.{◌≡◌, ◌+◌, ◌<◌, ◌≤◌, length, slice_index, sum, IfOk};
 ghost use Rattle.cut_fn.specs.Covered.{IsCovered};
-ghost use Rattle.cut_fn.specs.Stars.{star_enter, star_leave};
 ghost use Rattle.split_directed.specs.Allowed.{IsPartner};
-ghost use Rattle.split_directed.specs.StarValue.{star_of};
+ghost use Rattle.cut_fn.specs.Stars.{star_enter, star_leave, star_of};
+ghost use Rattle.graph_core.specs.Limits.{line_room};
 
 use crate::state::{Splitting, Witness, most_up_to, next_node};
 use cut_fn::ArcStar;
@@ -13,11 +13,11 @@ use std::alloc::Global;
 /// A node from which an arc may be split off with one to `t`, so that at least `k` arcs still enter and leave each proper side
 /// (Mader 1982).
 pub fn partner(alloc: Global, star: &ArcStar, k: u32, t: u32) -> Result<u32, NoMemory>
-    requires room { length star.now.graph.lines + sum star.now.into ≤ 65536 }
+    requires room { length star.now.graph.lines + sum star.now.into ≤ line_room }
     requires same { sum star.now.into ≡ sum star.now.out }
     requires arc { 1 ≤ slice_index star.now.into t }
-    requires enters { IsCovered (length star.now.graph.names) k (star_enter star.now) }
-    requires leaves { IsCovered (length star.now.graph.names) k (star_leave star.now) }
+    requires enters { IsCovered (length star.now.graph.names) k (star_enter (star_of star.now)) }
+    requires leaves { IsCovered (length star.now.graph.names) k (star_leave (star_of star.now)) }
     ensures { IfOk result (IsPartner (length star.now.graph.names) k (star_of star.now) t) }
 {
     star.graph.known();

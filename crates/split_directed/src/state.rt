@@ -1,8 +1,9 @@
 ghost use Rattle.std.specs.Prelude.{◌≡◌, ◌+◌, ◌++◌, ◌^◌, ◌<◌, ◌≤◌, [], ◌∷◌, ℕ, length, slice_index, sum, IfOk, OnOk};
-ghost use Rattle.split_directed.specs.StarValue.{star_of};
+ghost use Rattle.cut_fn.specs.Stars.{star_of};
 ghost use Rattle.split_directed.specs.State.{left_of, rows_with, IsState, IsCoveredStar};
-ghost use Rattle.split_directed.specs.Turn.{IsMostUpTo, IsLeft};
+ghost use Rattle.split_directed.specs.Turn.{IsFewest, IsMostUpTo, IsLeft};
 ghost use Rattle.split_directed.specs.Ways.{same, taken_in};
+ghost use Rattle.graph_core.specs.Limits.{line_room, side_room};
 
 use crate::half::Half;
 use crate::least::least_over;
@@ -23,7 +24,7 @@ pub struct Splitting<'a> {
 impl<'a> Splitting<'a> {
     /// Nothing is split off yet.
     pub fn begin(alloc: Global, star: &'a ArcStar) -> Result<Splitting<'a>, NoMemory>
-        requires { length star.now.graph.lines + sum star.now.into ≤ 65536 }
+        requires { length star.now.graph.lines + sum star.now.into ≤ line_room }
         ensures star { IfOk result (λ state. state.star.now ≡ star.now) }
         ensures rows { IfOk result (λ state. state.rows ≡ []) }
         ensures state { IfOk result (λ state. IsState (length star.now.graph.names) (star_of star.now) state.enter state.leave) }
@@ -105,16 +106,14 @@ pub fn most_up_to(
 pub fn fewest(out: &[u64], into: &[u64], u: u32, t: u32) -> u64
     requires u { u < length out.now }
     requires t { t < length into.now }
-    ensures out { result ≤ slice_index out.now u }
-    ensures into { result ≤ slice_index into.now t }
-    ensures greatest { (d : ℕ) → d ≤ slice_index out.now u → d ≤ slice_index into.now t → d ≤ result }
+    ensures { IsFewest out.now into.now u t result }
 {
     out[u as usize].min(into[t as usize])
 }
 
 /// A node with an arc left that isn't in the side.
 pub fn next_node(counts: &[u64], side: &Side) -> u32
-    requires few { length counts.now ≤ 8192 }
+    requires few { length counts.now ≤ side_room }
     requires long { length side.now ≡ length counts.now }
     requires some { (u : ℕ) × IsLeft counts.now side.now u }
     ensures { IsLeft counts.now side.now result }

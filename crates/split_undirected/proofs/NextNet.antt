@@ -22,7 +22,8 @@ use Rattle.split_undirected.specs.Network.{both_ways, net_value, IsStarNet}
 use Rattle.split_undirected.proofs.SplitLaws.{copies, ends_at-copies, across-copies, within-copies, degree-apart, nodes_after, value_after}
 use Rattle.graph_core.proofs.WeightLaws.{nodes_all}
 use Rattle.graph_core.proofs.SideLaws.{has-whole}
-use Rattle.split_undirected.specs.Split.{ends_at, apart, lines_after}
+use Rattle.graph_core.specs.Pairs.{apart}
+use Rattle.split_undirected.specs.Split.{ends_at, lines_after}
 use Rattle.split_undirected.specs.Rows.{star_value}
 
 pub net_start : {n k : ℕ} (ls : List Line) (counts : List ℕ) → length counts ≡ n → n ≤ 4096 → 2 * length ls + sum counts ≤ 131072 → All (Fits n) ls → IsCovered n k (star_value ls (slice_index counts)) → IsStarNet n k ls (arcs_of Undirected ls) counts

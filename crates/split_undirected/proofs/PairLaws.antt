@@ -1,8 +1,7 @@
 -- Pairs that split a star off: how many they are, and the graph with them where none has equal nodes.
-use Rattle.std.specs.Prelude.{ℕ, ◌≡◌, ◌≢◌, ◌*◌, ◌<◌, ◌==◌, true, false, not, cond, List, [], ◌∷◌, ◌++◌, length, replicate, count_by, slice_index, sum, All, refl}
-use Rattle.std.proofs.Common.{ap, ◌∙◌, arith}
-use Rattle.std.proofs.lemmas.Bool.{ne_eqb}
-use Rattle.std.proofs.lemmas.List.Elements.{All-head, All-tail, All-weaker}
+use Rattle.std.specs.Prelude.{ℕ, ◌≡◌, ◌≢◌, ◌*◌, ◌<◌, ◌==◌, true, List, ◌++◌, length, replicate, count_by, slice_index, sum, All}
+use Rattle.std.proofs.Common.{ap, arith}
+use Rattle.std.proofs.lemmas.List.Elements.{All-weaker}
 use Rattle.graph_core.specs.Side.{has, sum_over}
 use Rattle.cut_fn.specs.declared.stars.Star.{Star}
 use Rattle.graph_core.specs.Graph.{lines_of}
@@ -11,7 +10,8 @@ use Rattle.graph_core.proofs.Counting.{weight, sum_by-ones}
 use Rattle.graph_core.proofs.HeadLaws.{nodes_add, nodes_named}
 use Rattle.graph_core.proofs.WeightLaws.{nodes_agree, nodes_all}
 use Rattle.graph_core.proofs.SideLaws.{has-whole, whole-below}
-use Rattle.split_undirected.specs.Split.{ends_at, apart, lines_after, IsSplit}
+use Rattle.graph_core.proofs.PairLaws.{apart_all}
+use Rattle.split_undirected.specs.Split.{ends_at, lines_after, IsSplit}
 
 -- half as many as the star has edges
 pub half_as_many : {k : ℕ} (star : Star) (pairs : List (ℕ × ℕ)) → IsSplit k star pairs → 2 * length pairs ≡ sum star.count
@@ -31,13 +31,6 @@ half_as_many star pairs split =
       nodes_all star.count,
     )
 
--- pairs of different nodes are all kept
-pub apart_all : (pairs : List (ℕ × ℕ)) → All (λ p. p.0 ≢ p.1) pairs → apart pairs ≡ pairs
-apart_all [] different = refl
-apart_all (p ∷ pairs) different =
-    let test : (p.0 == p.1) ≡ false = ne_eqb p.0 p.1 (All-head (λ q. q.0 ≢ q.1) p pairs different) in
-    ap (λ b. cond (not b) (p ∷ apart pairs) (apart pairs)) test ∙ ap (λ ps. p ∷ ps) (apart_all pairs (All-tail (λ q. q.0 ≢ q.1) p pairs different))
-
--- so all of them are lines of the graph afterwards
+-- pairs of different nodes are all lines of the graph afterwards
 pub lines_after-all : (ls : List Line) (pairs : List (ℕ × ℕ)) → All (λ p. p.0 ≢ p.1) pairs → lines_after ls pairs ≡ ls ++ lines_of pairs
 lines_after-all ls pairs different = ap (λ ps. ls ++ lines_of ps) (apart_all pairs different)

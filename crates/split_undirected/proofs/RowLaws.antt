@@ -6,7 +6,8 @@ use Rattle.std.proofs.lemmas.List.Elements.{All-nil, All-head, All-tail, All-app
 use Rattle.std.proofs.lemmas.Grind.{flat_map-append}
 use Rattle.graph_core.specs.Side.{has}
 use Rattle.graph_core.proofs.SideLaws.{has-below}
-use Rattle.split_undirected.specs.Rows.{pairs_of, counts_after, row_at, IsRow, AreSplit}
+use Rattle.graph_core.specs.Pairs.{pair_at, IsRow, pairs_of}
+use Rattle.split_undirected.specs.Rows.{counts_after, AreSplit}
 use Rattle.split_undirected.proofs.SplitLaws.{value_after, ends_at-append}
 use Rattle.split_undirected.specs.Split.{ends_at, AreInDangerous, IsSplit}
 use Rattle.cut_fn.specs.declared.stars.Star.{Star}
@@ -26,10 +27,10 @@ ends_before rows j v =
 
 module _ {k : ℕ} (star : Star) {rows : List (ℕ × ℕ × ℕ)} (split : AreSplit k star rows) where
   -- a dangerous side of a node stays one, so the node isn't split off with itself
-  different_at : AreInDangerous k star → (j : ℕ) → j < length rows → (row_at rows j).0 ≢ (row_at rows j).1
+  different_at : AreInDangerous k star → (j : ℕ) → j < length rows → (pair_at rows j).0 ≢ (pair_at rows j).1
   different_at danger j l same =
       let w = slice_index star.count in
-      let r = row_at rows j in
+      let r = pair_at rows j in
       let P = pairs_of (take j rows) in
       let row : IsRow (length star.graph.names) r = split.most.each j (0, 0, 0) l in
       let may = (split.most.most j l).may in

@@ -9,7 +9,7 @@ use Rattle.graph_core.specs.declared.graph.Line.{Line}
 use Rattle.graph_core.proofs.PutLaws.{put_here, put_kept, some_missing, all_there}
 use Rattle.graph_core.proofs.ProperLaws.{is_proper}
 use Rattle.graph_core.proofs.SideLaws.{has-none, whole-below}
-use Rattle.flow_cuts.specs.Cuts.{IsWithin}
+use Rattle.cut_fn.specs.TwoSides.{IsWithin}
 use Rattle.flow_cuts.specs.LeastMissing.{IsLeastMissing}
 use Rattle.flow_cuts.specs.declared.network.Cap.{Cap}
 use Rattle.split_undirected.specs.CoveredStar.{total, room, IsCoveredStar}

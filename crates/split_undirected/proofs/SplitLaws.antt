@@ -13,8 +13,9 @@ use Rattle.graph_core.specs.declared.graph.Line.{Line}
 use Rattle.graph_core.proofs.Counting.{weight}
 use Rattle.graph_core.proofs.HeadLaws.{nodes_add, nodes_named}
 use Rattle.graph_core.proofs.WeightLaws.{nodes_agree}
-use Rattle.split_undirected.specs.Split.{ends_at, apart, lines_after}
-use Rattle.split_undirected.specs.Rows.{pairs_of, star_value}
+use Rattle.graph_core.specs.Pairs.{apart, pairs_of}
+use Rattle.split_undirected.specs.Split.{ends_at, lines_after}
+use Rattle.split_undirected.specs.Rows.{star_value}
 
 -- pairs with both ends in a side, and with one
 abbrev pub pairs_within : List Bool → List (ℕ × ℕ) → ℕ

@@ -1,14 +1,15 @@
 -- One turn of splitting off a node's edges: what is kept, and that fewer candidates are left.
-use Rattle.std.specs.Prelude.{ℕ, ◌≡◌, ◌≢◌, ◌+◌, ◌*◌, ◌/◌, ◌<◌, ◌≤◌, ◌==◌, ◌⊎◌, Bool, true, false, ◌&&◌, ◌||◌, nat_le, cond, List, [], ◌∷◌, ◌++◌, length, take, slice_index, refl}
+use Rattle.std.specs.Prelude.{ℕ, ◌≡◌, ◌≢◌, ◌+◌, ◌*◌, ◌/◌, ◌<◌, ◌≤◌, ◌==◌, ◌⊎◌, Bool, true, false, ◌&&◌, ◌||◌, nat_le, cond, List, [], ◌∷◌, ◌++◌, length, slice_index, refl}
 use Rattle.std.proofs.Common.{sym, ap, ◌∙◌, inl, inr, arith, subst}
 use Rattle.std.proofs.lemmas.Bool.{cases_eq, cases_lt, cases_Bool, eq-eqb, ne_eqb}
 use Rattle.std.proofs.lemmas.Bool.Decides.{nat_tests}
-use Rattle.std.proofs.lemmas.List.{length-append, take-append-le, get_or_append_left, get_or-append-add}
-use Rattle.std.proofs.Math.Seq.{take-append_seam}
+use Rattle.std.proofs.lemmas.List.{length-append}
 use Rattle.std.proofs.lemmas.List.Elements.{All-nil, All-cons, All-append}
 use Rattle.graph_core.specs.Side.{has, sum_over}
 use Rattle.graph_core.specs.declared.graph.Line.{Line}
 use Rattle.graph_core.proofs.Counting.{weight}
+use Rattle.graph_core.proofs.PairLaws.{pair_kept, pair_new, each_place}
+use Rattle.graph_core.specs.Pairs.{pair_at, IsRow, pairs_of}
 use Rattle.flow_cuts.specs.declared.network.Cap.{Cap}
 use Rattle.split_undirected.specs.Most.{IsMost}
 use Rattle.split_undirected.specs.CoveredStar.{room, is_candidate, IsDangerous, IsWitness, AreWitnesses, IsWider}
@@ -18,7 +19,7 @@ use Rattle.split_undirected.proofs.Candidates.{room_first, room_second, room_twi
 use Rattle.split_undirected.proofs.SplitLaws.{copies, lines_after-append, ends_at-append, pairs_of-push}
 use Rattle.split_undirected.proofs.NextNet.{ends_lowered, net_falls, net_next, even_next}
 use Rattle.split_undirected.specs.Split.{ends_at, lines_after}
-use Rattle.split_undirected.specs.Rows.{pairs_of, counts_after, star_value, row_at, HaveSameEnds, IsRow, IsMostAfter, AreMost}
+use Rattle.split_undirected.specs.Rows.{counts_after, star_value, HaveSameEnds, IsMostAfter, AreMost}
 
 -- lower counts have less room
 room_less : (w left : ℕ → ℕ) (u v : ℕ) → left u ≤ w u → left v ≤ w v → room left u v ≤ room w u v
@@ -92,35 +93,22 @@ witnesses_fall {n} {k} f g {u} {X} {Y} falls wit = record { near = fall X wit.ne
       either = elim w.either [ inl none ↦ inl none | inr d ↦ inr (record { proper = d.proper; holds = d.holds; value = omega (arith, falls Z, d.value) }) ];
     }
 
-row_kept : (rows : List (ℕ × ℕ × ℕ)) (r : ℕ × ℕ × ℕ) (j : ℕ) → j < length rows → row_at (rows ++ r ∷ []) j ≡ row_at rows j
-row_kept rows r j l = get_or_append_left rows (r ∷ []) (0, 0, 0) j l
-
-row_new : (rows : List (ℕ × ℕ × ℕ)) (r : ℕ × ℕ × ℕ) (j : ℕ) → j ≡ length rows → row_at (rows ++ r ∷ []) j ≡ r
-row_new rows r j e = let e' : j ≡ length rows + 0 = omega arith in ap (row_at (rows ++ r ∷ [])) e' ∙ get_or-append-add rows (r ∷ []) 0 (0, 0, 0)
-
 -- a row behind the others
 most_push : {n k : ℕ} {ls : List Line} {w : ℕ → ℕ} (rows : List (ℕ × ℕ × ℕ)) (u v q : ℕ) → AreMost n k ls w rows → IsRow n (u, v, q)
     → IsMostAfter n k ls w (pairs_of rows) (u, v, q)
-    → ((j : ℕ) → j < length rows → HaveSameEnds (row_at rows j) (u, v, 0) → ⊥) → AreMost n k ls w (rows ++ (u, v, q) ∷ [])
+    → ((j : ℕ) → j < length rows → HaveSameEnds (pair_at rows j) (u, v, 0) → ⊥) → AreMost n k ls w (rows ++ (u, v, q) ∷ [])
 most_push {n} {k} {ls} {w} rows u v q most row largest fresh =
     let r : ℕ × ℕ × ℕ = (u, v, q) in
     let more = rows ++ r ∷ [] in
     let long : length more ≡ length rows + 1 = length-append rows (r ∷ []) in
-    let At : List (ℕ × ℕ × ℕ) → ℕ × ℕ × ℕ → Type 0 = λ before s. IsMostAfter n k ls w (pairs_of before) s in
     record {
       each = All-append (IsRow n) rows (r ∷ []) most.each (All-cons (IsRow n) r [] row (All-nil (IsRow n)));
-      most = λ j l.
-          elim (cases_lt j (length rows)) [
-            | inl before ↦ subst (λ s. At (take j more) s) (sym (row_kept rows r j before)) (subst (λ b. At b (row_at rows j)) (sym (take-append-le j rows (r ∷ []) (omega arith))) (most.most j before))
-            | inr past ↦ (let e : j ≡ length rows = omega arith in
-                let front : take j more ≡ rows = ap (λ i. take i more) e ∙ take-append_seam rows (r ∷ []) in
-                subst (λ s. At (take j more) s) (sym (row_new rows r j e)) (subst (λ b. At b r) (sym front) largest))
-          ];
+      most = each_place rows r (λ before t. IsMostAfter n k ls w (pairs_of before) t) most.most largest;
       once = λ i j before l same.
           elim (cases_lt j (length rows)) [
-            | inl in' ↦ most.once i j before in' (subst (λ s. HaveSameEnds (row_at rows i) s) (row_kept rows r j in') (subst (λ s. HaveSameEnds s (row_at more j)) (row_kept rows r i (omega arith)) same))
+            | inl in' ↦ most.once i j before in' (subst (λ s. HaveSameEnds (pair_at rows i) s) (pair_kept rows r j in') (subst (λ s. HaveSameEnds s (pair_at more j)) (pair_kept rows r i (omega arith)) same))
             | inr past ↦ (let e : j ≡ length rows = omega arith in
-                fresh i (omega arith) (subst (λ s. HaveSameEnds (row_at rows i) s) (row_new rows r j e) (subst (λ s. HaveSameEnds s (row_at more j)) (row_kept rows r i (omega arith)) same)))
+                fresh i (omega arith) (subst (λ s. HaveSameEnds (pair_at rows i) s) (pair_new rows r j e) (subst (λ s. HaveSameEnds s (pair_at more j)) (pair_kept rows r i (omega arith)) same)))
           ];
     }
 
@@ -136,7 +124,7 @@ module _ {n k : ℕ} {ls : List Line} {w : ℕ → ℕ} {rows rows' : List (ℕ 
         | inr some ↦ subst (λ a. net_value a counts' X + 2 * (q * weight (has X u && has X v)) ≡ net_value arcs counts X) (sym some.2) (net_falls under.net u v q lu lv counts' after.long after.lowered X)
       ]
 
-  pub underway_next : IsMost n k (net_value arcs counts) (slice_index counts) u v q → ((j : ℕ) → j < length rows → HaveSameEnds (row_at rows j) (u, v, 0) → ⊥) → IsUnderway n k ls w rows' arcs' counts'
+  pub underway_next : IsMost n k (net_value arcs counts) (slice_index counts) u v q → ((j : ℕ) → j < length rows → HaveSameEnds (pair_at rows j) (u, v, 0) → ⊥) → IsUnderway n k ls w rows' arcs' counts'
   underway_next largest fresh =
       elim after.either [
         | inl none ↦ subst (λ r. IsUnderway n k ls w r arcs' counts') (sym none.1) (subst (λ a. IsUnderway n k ls w rows a counts') (sym none.2) (subst (λ c. IsUnderway n k ls w rows arcs c) (sym none.3) under))
@@ -161,9 +149,9 @@ module _ {n k : ℕ} {ls : List Line} {w : ℕ → ℕ} {rows rows' : List (ℕ 
   pub turn_next : {X Y X' Y' : List Bool} → IsTurn n k u rows arcs counts X Y → AreWitnesses n k (net_value arcs' counts') u X' Y' → IsWider X Y X' Y' → is_candidate (slice_index counts') u X' Y' v ≡ false → IsTurn n k u rows' arcs' counts' X' Y'
   turn_next {X} {Y} {X'} {Y'} turn wit wider gone =
       let less = candidates_less (slice_index counts) (slice_index counts') u X Y X' Y' counts_fall wider in
-      let old_first : (j : ℕ) → j < length rows → (slice_index counts' (row_at rows j).0 ≡ 0) ⊎ ((row_at rows j).0 ≡ u) =
-      λ j l. elim (turn.firsts j l) [ inl zero' ↦ inl (omega (arith, counts_fall (row_at rows j).0)) | inr e ↦ inr e ] in
-      let old_fresh : (j : ℕ) → j < length rows → (x : ℕ) → is_candidate (slice_index counts') u X' Y' x ≡ true → HaveSameEnds (row_at rows j) (u, x, 0) → ⊥ =
+      let old_first : (j : ℕ) → j < length rows → (slice_index counts' (pair_at rows j).0 ≡ 0) ⊎ ((pair_at rows j).0 ≡ u) =
+      λ j l. elim (turn.firsts j l) [ inl zero' ↦ inl (omega (arith, counts_fall (pair_at rows j).0)) | inr e ↦ inr e ] in
+      let old_fresh : (j : ℕ) → j < length rows → (x : ℕ) → is_candidate (slice_index counts') u X' Y' x ≡ true → HaveSameEnds (pair_at rows j) (u, x, 0) → ⊥ =
       λ j l x can same. turn.fresh j l x (less x can) same in
       elim after.either [
         | inl none ↦ subst (λ r. IsTurn n k u r arcs' counts' X' Y') (sym none.1) (record { witnesses = wit; firsts = old_first; fresh = old_fresh })
@@ -173,13 +161,13 @@ module _ {n k : ℕ} {ls : List Line} {w : ℕ → ℕ} {rows rows' : List (ℕ 
               witnesses = wit;
               firsts = λ j l.
                   elim (cases_lt j (length rows)) [
-                    | inl before ↦ subst (λ s. (slice_index counts' s.0 ≡ 0) ⊎ (s.0 ≡ u)) (sym (row_kept rows r j before)) (old_first j before)
-                    | inr past ↦ inr (ap (λ s. s.0) (row_new rows r j (omega arith)))
+                    | inl before ↦ subst (λ s. (slice_index counts' s.0 ≡ 0) ⊎ (s.0 ≡ u)) (sym (pair_kept rows r j before)) (old_first j before)
+                    | inr past ↦ inr (ap (λ s. s.0) (pair_new rows r j (omega arith)))
                   ];
               fresh = λ j l x can same.
                   elim (cases_lt j (length rows)) [
-                    | inl before ↦ old_fresh j before x can (subst (λ s. HaveSameEnds s (u, x, 0)) (row_kept rows r j before) same)
-                    | inr past ↦ new_fresh x can (subst (λ s. HaveSameEnds s (u, x, 0)) (row_new rows r j (omega arith)) same)
+                    | inl before ↦ old_fresh j before x can (subst (λ s. HaveSameEnds s (u, x, 0)) (pair_kept rows r j before) same)
+                    | inr past ↦ new_fresh x can (subst (λ s. HaveSameEnds s (u, x, 0)) (pair_new rows r j (omega arith)) same)
                   ];
             }))
       ]

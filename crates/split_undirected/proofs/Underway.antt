@@ -16,8 +16,9 @@ use Rattle.split_undirected.specs.Network.{IsStarNet}
 use Rattle.split_undirected.specs.Underway.{IsUnderway}
 use Rattle.split_undirected.proofs.NextNet.{net_start}
 use Rattle.graph_core.proofs.WeightLaws.{nodes_agree}
+use Rattle.graph_core.specs.Pairs.{IsRow, pairs_of}
 use Rattle.split_undirected.specs.Split.{lines_after}
-use Rattle.split_undirected.specs.Rows.{pairs_of, star_value, IsRow}
+use Rattle.split_undirected.specs.Rows.{star_value}
 
 pub underway_start : {n k : ℕ} (ls : List Line) (counts : List ℕ) → length counts ≡ n → n ≤ 4096 → 2 * length ls + sum counts ≤ 131072 → sum counts % 2 ≡ 0 → All (Fits n) ls → IsCovered n k (star_value ls (slice_index counts))
     → IsUnderway n k ls (slice_index counts) [] (arcs_of Undirected ls) counts

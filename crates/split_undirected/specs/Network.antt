@@ -1,5 +1,6 @@
 -- A star as a network: the graph's edges in both directions, and an arc from each node to the new one. No public clause cites it.
 use Rattle.std.specs.Prelude.{ℕ, ◌≡◌, ◌+◌, ◌*◌, ◌<◌, ◌≤◌, Bool, true, List, [], ◌∷◌, length, sum, slice_index, All}
+use Rattle.graph_core.specs.Limits.{line_room, node_room}
 use Rattle.graph_core.specs.Side.{has, IsProper}
 use Rattle.graph_core.specs.Graph.{Fits}
 use Rattle.graph_core.specs.Lines.{degree}
@@ -21,8 +22,8 @@ net_value arcs counts = value_with arcs (slice_index counts)
 -- arcs and counts are those of a k-covered star of n nodes with the lines ls, and they are few enough for a flow
 pub record IsStarNet (n k : ℕ) (ls : List Line) (arcs : List Cap) (counts : List ℕ) : Type 0 where
   pub long : length counts ≡ n
-  pub nodes : n ≤ 4096
-  pub few : length arcs + sum counts ≤ 131072
+  pub nodes : n ≤ node_room
+  pub few : length arcs + sum counts ≤ 2 * line_room
   pub ends : All (λ a. (a.tail < n) × (a.head < n)) arcs
   pub fit : All (Fits n) ls
   pub same : (X : List Bool) → capacity X arcs ≡ degree X ls

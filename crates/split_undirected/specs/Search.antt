@@ -1,7 +1,7 @@
 -- A search for the least value of a proper side with u and v, by sides that miss one node after another. No public clause cites it.
 use Rattle.std.specs.Prelude.{ℕ, ◌≡◌, ◌+◌, ◌*◌, ◌<◌, ◌≤◌, ◌⊎◌, Bool, true, List, length}
 use Rattle.graph_core.specs.Side.{has, sum_over, IsProper}
-use Rattle.flow_cuts.specs.Cuts.{IsWithin}
+use Rattle.cut_fn.specs.TwoSides.{IsWithin}
 use Rattle.split_undirected.specs.CoveredStar.{total}
 use Rattle.split_undirected.specs.Network.{IsSideOver}
 

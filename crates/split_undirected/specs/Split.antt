@@ -1,8 +1,9 @@
 -- Splitting off in a star: a pair (u, v) takes an edge to u and an edge to v away, and joins u and v by a line where they differ (Lovász).
-use Rattle.std.specs.Prelude.{ℕ, ◌≡◌, ◌≢◌, ◌+◌, ◌*◌, ◌%◌, ◌<◌, ◌≤◌, ◌==◌, Bool, true, not, List, ◌++◌, length, count_by, slice_index, sum, All}
-use Rattle.std.specs.List.{filter}
+use Rattle.std.specs.Prelude.{ℕ, ◌≡◌, ◌≢◌, ◌+◌, ◌*◌, ◌%◌, ◌<◌, ◌≤◌, ◌==◌, Bool, true, List, ◌++◌, length, count_by, slice_index, sum, All}
+use Rattle.graph_core.specs.Limits.{line_room}
 use Rattle.graph_core.specs.Side.{has, IsProper}
 use Rattle.graph_core.specs.Graph.{lines_of}
+use Rattle.graph_core.specs.Pairs.{apart}
 use Rattle.graph_core.specs.Connected.{IsEdgeConnected}
 use Rattle.graph_core.specs.declared.graph.Line.{Line}
 use Rattle.cut_fn.specs.Covered.{IsCovered}
@@ -14,7 +15,7 @@ pub record CanBeSplit (k : ℕ) (star : Star) : Type 0 where
   pub two : 2 ≤ k
   pub even : sum star.count % 2 ≡ 0
   pub covered : IsCovered (length star.graph.names) k (star_cut star)
-  pub room : 2 * length star.graph.lines + sum star.count ≤ 131072
+  pub room : 2 * length star.graph.lines + sum star.count ≤ 2 * line_room
 
 -- how often v is an end of the pairs, where a pair of equal nodes counts twice
 abbrev pub ends_at : ℕ → List (ℕ × ℕ) → ℕ
@@ -23,10 +24,6 @@ ends_at v pairs = count_by (λ p. p.0 == v) pairs + count_by (λ p. p.1 == v) pa
 -- all edges of the star: each node v is an end w v times
 abbrev pub UseUp : ℕ → (ℕ → ℕ) → List (ℕ × ℕ) → Type 0
 UseUp n w pairs = (v : ℕ) → v < n → ends_at v pairs ≡ w v
-
--- the pairs of different nodes
-abbrev pub apart : List (ℕ × ℕ) → List (ℕ × ℕ)
-apart pairs = filter (λ p. not (p.0 == p.1)) pairs
 
 -- the lines afterwards
 abbrev pub lines_after : List Line → List (ℕ × ℕ) → List Line

@@ -1,5 +1,6 @@
 ghost use Rattle.cut_fn.specs.Stars.{star_cut};
 ghost use Rattle.std.specs.Prelude.{◌≡◌, ◌<◌, ◌≤◌, ◌+◌, ◌*◌, List, length, sum, slice_index, IfOk};
+ghost use Rattle.graph_core.specs.Limits.{line_room};
 ghost use Rattle.graph_core.specs.declared.graph.Line.{Line as LineOf};
 ghost use Rattle.cut_fn.specs.Covered.{IsCovered};
 ghost use Rattle.split_undirected.specs.CoveredStar.{room};
@@ -43,7 +44,7 @@ pub fn most(alloc: Global, star: &Star, k: u32, u: u32, v: u32) -> Result<u64, N
     requires u { u < length star.now.graph.names }
     requires v { v < length star.now.graph.names }
     requires covered { IsCovered (length star.now.graph.names) k (star_cut star.now) }
-    requires room { 2 * length star.now.graph.lines + sum star.now.count ≤ 131072 }
+    requires room { 2 * length star.now.graph.lines + sum star.now.count ≤ 2 * line_room }
     ensures { IfOk result (IsMost (length star.now.graph.names) k (star_cut star.now) (slice_index star.now.count) u v) }
 {
     star.graph.known();

@@ -1,4 +1,5 @@
 ghost use Rattle.std.specs.Prelude.{◌≡◌, ◌<◌, ◌≤◌, ◌+◌, ◌*◌, ◌^◌, ℕ, List, length, sum, slice_index, IfOk};
+ghost use Rattle.graph_core.specs.Limits.{line_room};
 ghost use Rattle.graph_core.specs.declared.graph.Line.{Line as LineOf};
 ghost use Rattle.split_undirected.specs.CoveredStar.{room};
 ghost use Rattle.split_undirected.specs.Network.{net_value, IsStarNet, IsLeastOver};
@@ -20,7 +21,7 @@ fn try_without(
     least: u64,
     into: &mut Side,
 ) -> u64
-    requires few { sum net.old.counts.now ≤ 131072 }
+    requires few { sum net.old.counts.now ≤ 2 * line_room }
     requires node { w < length net.old.counts.now }
     requires held { length held.old ≡ length net.old.counts.now }
     requires into { length into.old ≡ length net.old.counts.now }
@@ -45,7 +46,7 @@ fn try_without(
 
 /// The same for one node after another.
 fn try_nodes(net: &mut StarFlow, held: &mut Side, k: u32, stop: u64, into: &mut Side) -> u64
-    requires few { sum net.old.counts.now ≤ 131072 }
+    requires few { sum net.old.counts.now ≤ 2 * line_room }
     requires held { length held.old ≡ length net.old.counts.now }
     requires into { length into.old ≡ length net.old.counts.now }
     requires stop { stop < 2 ^ 40 }

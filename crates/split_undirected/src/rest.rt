@@ -1,4 +1,5 @@
 ghost use Rattle.std.specs.Prelude.{◌≡◌, ◌<◌, ◌≤◌, ◌+◌, ◌^◌, ◌==◌, ◌++◌, ℕ, length, slice_index, cond, IfOk, OnOk};
+ghost use Rattle.graph_core.specs.Limits.{line_room};
 ghost use Rattle.graph_core.specs.declared.graph.Kind.TheVariants.{Undirected};
 ghost use Rattle.flow_cuts.specs.GraphArcs.{arcs_of};
 ghost use Rattle.split_undirected.specs.CoveredStar.{room};
@@ -30,7 +31,7 @@ fn lower(counts: &mut [u64], u: u32, v: u32, q: u64)
 
 impl Rest {
     pub fn of_star(alloc: Global, star: &Star) -> Result<Rest, NoMemory>
-        requires { length star.now.graph.lines ≤ 65536 }
+        requires { length star.now.graph.lines ≤ line_room }
         ensures arcs { IfOk result (λ rest. rest.arcs.items ≡ arcs_of Undirected star.now.graph.lines) }
         ensures counts { IfOk result (λ rest. rest.counts.items ≡ star.now.count) }
     {

@@ -5,7 +5,7 @@ use Rattle.std.proofs.lemmas.Bool.{cases_lt, false_from_ne_true}
 use Rattle.std.proofs.lemmas.List.{get_or_past}
 use Rattle.graph_core.specs.Side.{has, IsOnly}
 use Rattle.graph_core.proofs.ProperLaws.{is_proper}
-use Rattle.flow_cuts.specs.Cuts.{IsWithin}
+use Rattle.cut_fn.specs.TwoSides.{IsWithin}
 use Rattle.flow_cuts.specs.LeastMissing.{IsLeastMissing}
 use Rattle.star_net.specs.LeastProper.{HasProper, IsLeastProper}
 
@@ -30,13 +30,6 @@ pub record IsLeastBelow (n : ℕ) (f : List Bool → ℕ) (v u stop value : ℕ)
   pub stopped : value ≤ stop
   pub least : (Y : List Bool) → length Y ≡ n → has Y v ≡ true → (w : ℕ) → w < u → has Y w ≡ false → value ≤ f Y
   pub reached : value < stop → HasProper n f v value X
-
-pub below_first : {n v stop : ℕ} {f : List Bool → ℕ} {X : List Bool} → IsLeastBelow n f v 0 stop stop X
-below_first = record {
-  stopped = omega arith;
-  least = λ Y y i w l. absurd (omega arith);
-  reached = λ short. absurd (omega arith);
-}
 
 module _ {n v stop value : ℕ} {f : List Bool → ℕ} {X : List Bool} where
   pub below_next : {u value' : ℕ} {H X' : List Bool} → u < n → IsOnly H v → IsLeastBelow n f v u stop value X

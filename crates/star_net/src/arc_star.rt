@@ -1,4 +1,5 @@
 ghost use Rattle.std.specs.Prelude.{◌≡◌, ◌≤◌, length, IfOk};
+ghost use Rattle.graph_core.specs.Limits.{most_k};
 ghost use Rattle.graph_core.specs.Graph.{IsWithinSize};
 ghost use Rattle.problem_defs.specs.Ways.{count_for};
 ghost use Rattle.star_net.specs.Lowered.{IsLowered};
@@ -22,7 +23,7 @@ pub struct TightArcStar {
 
 /// Least counts for ρ or δ.
 fn arc_counts(alloc: Global, graph: &Graph, way: Way, k: u32) -> Result<LeastCounts, NoMemory>
-    requires { k ≤ 32 }
+    requires { k ≤ most_k }
     ensures { IfOk result (λ least. IsLowered (length graph.now.names) k (count_for way graph.now.lines) (length graph.now.names) least.counts.items least.family) }
 {
     graph.known();
@@ -34,7 +35,7 @@ fn arc_counts(alloc: Global, graph: &Graph, way: Way, k: u32) -> Result<LeastCou
 /// side of the digraph (Frank 1992, the first half of his augmentation of digraphs).
 pub fn least_arc_star(alloc: Global, graph: &Graph, k: u32) -> Result<TightArcStar, NoMemory>
     requires size { IsWithinSize graph.now }
-    requires k { k ≤ 32 }
+    requires k { k ≤ most_k }
     ensures { IfOk result (IsTightArcStar k graph.now) }
 {
     let into = arc_counts(alloc, graph, Way::Entering, k)?;

@@ -1,6 +1,7 @@
 ghost use Rattle.std.specs.Prelude.{◌≡◌, ◌+◌, ◌-◌, ◌<◌, ◌≤◌, ◌++◌, [], ◌∷◌, length, slice_index, slice_set, OnOk, IfOk};
 ghost use Rattle.flow_cuts.specs.NewNode.{AreArcs};
 ghost use Rattle.star_net.specs.Lowered.{capacity_over, IsLowered};
+ghost use Rattle.graph_core.specs.Limits.{line_room, node_room};
 
 use crate::value::least_value;
 use flow_cuts::Cap;
@@ -18,8 +19,8 @@ pub struct LeastCounts {
 /// side that has just this value becomes a member, where the count doesn't become 0.
 fn lower(least: &mut LeastCounts, k: u64, v: u32, value: u64, side: Side) -> Result<(), NoMemory>
     requires v { v < length least.old.counts.items }
-    requires small { k ≤ 65536 }
-    requires count { slice_index least.old.counts.items v ≤ 65536 }
+    requires small { k ≤ line_room }
+    requires count { slice_index least.old.counts.items v ≤ line_room }
     requires value { value ≤ k + slice_index least.old.counts.items v }
     ensures counts { OnOk result (least.new.counts.items ≡ slice_set least.old.counts.items v (k + slice_index least.old.counts.items v - value)) }
     ensures kept { OnOk result (k + slice_index least.old.counts.items v ≤ value → least.new.family ≡ least.old.family) }
@@ -42,9 +43,9 @@ fn lower_node(
     least: &mut LeastCounts,
     v: u32,
 ) -> Result<(), NoMemory>
-    requires nodes { n ≤ 4096 }
+    requires nodes { n ≤ node_room }
     requires arcs { AreArcs n arcs.now }
-    requires small { k ≤ 65536 }
+    requires small { k ≤ line_room }
     requires v { v < n }
     requires last { slice_index least.old.counts.items (n - 1) ≡ k }
     requires lowered { IsLowered n k (capacity_over arcs.now) v least.old.counts.items least.old.family }
@@ -61,9 +62,9 @@ fn lower_node(
 /// Counts that make the star over a network k-covered, and tight sides that hold each node with a count. So no count can be
 /// lowered. By 2 (n - 1) flows.
 pub fn least_counts(alloc: Global, n: usize, arcs: &[Cap], k: u64) -> Result<LeastCounts, NoMemory>
-    requires nodes { n ≤ 4096 }
+    requires nodes { n ≤ node_room }
     requires arcs { AreArcs n arcs.now }
-    requires small { k ≤ 65536 }
+    requires small { k ≤ line_room }
     ensures { IfOk result (λ least. IsLowered n k (capacity_over arcs.now) n least.counts.items least.family) }
 {
     let mut least = LeastCounts {

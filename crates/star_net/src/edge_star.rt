@@ -1,4 +1,5 @@
 ghost use Rattle.std.specs.Prelude.{◌≡◌, ◌≤◌, length, IfOk};
+ghost use Rattle.graph_core.specs.Limits.{most_k};
 ghost use Rattle.graph_core.specs.Graph.{IsWithinSize};
 ghost use Rattle.graph_core.specs.Lines.{degree};
 ghost use Rattle.star_net.specs.Lowered.{IsLowered};
@@ -19,7 +20,7 @@ pub struct TightStar {
 
 /// Least counts for d.
 fn edge_counts(alloc: Global, graph: &Graph, k: u32) -> Result<LeastCounts, NoMemory>
-    requires { k ≤ 32 }
+    requires { k ≤ most_k }
     ensures { IfOk result (λ least. IsLowered (length graph.now.names) k (λ X. degree X graph.now.lines) (length graph.now.names) least.counts.items least.family) }
 {
     graph.known();
@@ -31,7 +32,7 @@ fn edge_counts(alloc: Global, graph: &Graph, k: u32) -> Result<LeastCounts, NoMe
 /// the first half of his augmentation).
 pub fn least_star(alloc: Global, graph: &Graph, k: u32) -> Result<TightStar, NoMemory>
     requires size { IsWithinSize graph.now }
-    requires k { k ≤ 32 }
+    requires k { k ≤ most_k }
     ensures { IfOk result (IsTightStar k graph.now) }
 {
     let LeastCounts { counts, mut family } = edge_counts(alloc, graph, k)?;

@@ -1,6 +1,7 @@
 ghost use Rattle.std.specs.Prelude.{◌≡◌, ◌+◌, ◌-◌, ◌<◌, ◌≤◌, ◌^◌, length, slice_index, All, IfOk};
 ghost use Rattle.flow_cuts.specs.NewNode.{value_with, AreArcs};
 ghost use Rattle.star_net.specs.LeastProper.{IsLeastProper};
+ghost use Rattle.graph_core.specs.Limits.{node_room};
 
 use flow_cuts::{Cap, StarFlow};
 use graph_core::{NoMemory, Side};
@@ -17,7 +18,7 @@ pub fn least_value(
     stop: u64,
     into: &mut Side,
 ) -> Result<u64, NoMemory>
-    requires nodes { length counts.now ≤ 4096 }
+    requires nodes { length counts.now ≤ node_room }
     requires arcs { AreArcs (length counts.now) arcs.now }
     requires small { All (λ count. count < 2 ^ 32) counts.now }
     requires v { v < length counts.now }

@@ -3,7 +3,7 @@ use Rattle.std.proofs.Common.{ℕ, ◌≡◌, ◌≢◌, ◌<◌, ◌≤◌, ◌
 use Rattle.std.specs.Int.{w64}
 use Rattle.std.specs.Prelude.{bit_and, bit_or, All}
 use Rattle.std.proofs.lemmas.Bool.{cases_lt, cases_eq, lt-ltb, le-ltb}
-use Rattle.std.proofs.lemmas.List.{ext_get_or, get_or_default, get_or_past, get_or-map, get_or-replicate, get_or-set_same, get_or-set_other, length-map, length-replicate, length-set}
+use Rattle.std.proofs.lemmas.List.{ext_get_or, get_or_past, get_or-map, get_or-replicate, get_or-set_same, get_or-set_other, length-map, length-replicate, length-set}
 use Rattle.std.proofs.lemmas.List.Elements.{All-get_or, All-from_get_or}
 use Rattle.std.proofs.lemmas.List.FromFn.{length-map-range_with_len, get_or-map-range_with_len, fill_by_all}
 use Rattle.std.proofs.lemmas.Simd.{length-zip2, get_or-zip2}
@@ -194,7 +194,3 @@ module _ (n m : ℕ) (xs ys : List ℕ) (X Y : List Bool) (vx : values n xs ≡ 
       values-made =
           ap (λ j. values j zs) ek ∙ ap (values n) (ez ∙ ap (zip2 g xs) ey) ∙ values-zip2 f g law n xs ys cx theirs-clean
           ∙ ap (λ Z. zip2 f Z (values n ys)) vx ∙ ap (zip2 f X) theirs
-
--- a word that stands at j
-pub word-at : (ws : List ℕ) (j w : ℕ) → j < length ws → w ≡ get_or ws j w → w ≡ get_or ws j 0
-word-at ws j w l e = e ∙ get_or_default ws j w 0 l

@@ -4,7 +4,7 @@ ghost use Rattle.word_sides.specs.Held.{len_of, words_of};
 ghost use Rattle.word_sides.specs.Words.{IsClean, room, value, values, without};
 ghost use lib.Lanes.{zip2};
 
-use crate::NoRoom;
+use crate::OutOfMemory;
 use crate::lanes::{
     complement_words, copy_words, join_words, meet_words, minus_words, part_words, put_value,
 };
@@ -35,7 +35,7 @@ impl Drop for Held {
 
 impl Held {
     /// `n` values, all false.
-    pub fn zeros(alloc: Global, n: usize) -> Result<Held, NoRoom>
+    pub fn zeros(alloc: Global, n: usize) -> Result<Held, OutOfMemory>
         requires { n ≤ 8192 }
         ensures len { IfOk result (λ h. len_of h ≡ n) }
         ensures words { IfOk result (λ h. words_of h ≡ replicate (room n) 0) }
@@ -48,7 +48,7 @@ impl Held {
         Ok(Held::Many { len, words })
     }
 
-    pub fn copy(&self, alloc: Global) -> Result<Held, NoRoom>
+    pub fn copy(&self, alloc: Global) -> Result<Held, OutOfMemory>
         ensures len { IfOk result (λ h. len_of h ≡ len_of self.now) }
         ensures words { IfOk result (λ h. words_of h ≡ words_of self.now) }
     {

@@ -2,7 +2,7 @@ ghost use Rattle.std.specs.Prelude.{◌≡◌, ◌<◌, ◌≤◌, ◌+◌, ◌*
 ghost use Rattle.word_sides.specs.Words.{bit};
 ghost use lib.Lanes.{zip2};
 
-use crate::NoRoom;
+use crate::OutOfMemory;
 use crate::held::Held;
 use crate::lanes::{are_zero, count_ones, same_words};
 use std::alloc::Global;
@@ -28,7 +28,7 @@ impl Model for Words {
 
 impl Words {
     /// `n` values, all false.
-    pub fn empty(alloc: Global, n: usize) -> Result<Words, NoRoom>
+    pub fn empty(alloc: Global, n: usize) -> Result<Words, OutOfMemory>
         requires { n ≤ 8192 }
         ensures { IfOk result (λ s. s ≡ replicate n false) }
     {
@@ -36,7 +36,7 @@ impl Words {
         Ok(Words { held })
     }
 
-    pub fn copy(&self, alloc: Global) -> Result<Words, NoRoom>
+    pub fn copy(&self, alloc: Global) -> Result<Words, OutOfMemory>
         ensures { IfOk result (λ s. s ≡ self.now) }
     {
         let held = self.held.copy(alloc)?;

@@ -2,6 +2,7 @@
 use Rattle.std.proofs.Common.{ℕ, ◌≡◌, ◌-◌, ◌*◌, ◌<◌, ◌≤◌, ◌==◌, ◌^◌, Bool, List, length, None, All, sum_by, refl, arith, inl, inr}
 use Rattle.std.proofs.lemmas.Bool.{cases_Bool, eqb-true, eqb-false}
 use Rattle.std.proofs.lemmas.List.Elements.{All-weaker}
+use Rattle.graph_core.specs.Limits.{most_k}
 use Rattle.graph_core.specs.Graph.{GraphValue, IsGraph}
 use Rattle.graph_core.specs.Side.{IsNonempty, IsProper}
 use Rattle.graph_core.specs.Lines.{degree}
@@ -20,7 +21,7 @@ pub augment_suits : (g : GraphValue) (k : ℕ) → KIsInRange (Augment k) → mi
 augment_suits g k range none = record { low = range.0; high = range.1; kind = undirected-of g.kind None none }
 
 -- the sides have length n, and the bound fits a number
-long_and_few : (g : GraphValue) (k : ℕ) (P : List (List Bool)) → IsGraph g → 1 ≤ k → k ≤ 32 → IsDual k g P → All (λ X. length X ≡ length g.names) P × (bound k g P < 2 ^ 64)
+long_and_few : (g : GraphValue) (k : ℕ) (P : List (List Bool)) → IsGraph g → 1 ≤ k → k ≤ most_k → IsDual k g P → All (λ X. length X ≡ length g.names) P × (bound k g P < 2 ^ 64)
 long_and_few g k P graph low high dual =
     elim (cases_Bool (k == 1)) [
       | inl one ↦

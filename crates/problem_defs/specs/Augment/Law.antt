@@ -5,6 +5,7 @@ use Rattle.std.proofs.lemmas.List.{length-map}
 use Rattle.std.proofs.lemmas.Bool.{cases_Bool, eqb-true, eqb-false}
 use Rattle.std.proofs.lemmas.List.Sums.{sum_by-append, count_by-le-length}
 use Rattle.std.proofs.lemmas.List.Elements.{All-weaker, All-append}
+use Rattle.graph_core.specs.Limits.{node_room}
 use Rattle.graph_core.specs.Graph.{GraphValue, IsGraph, Fits, line_of, lines_of}
 use Rattle.graph_core.specs.Side.{IsProper}
 use Rattle.graph_core.specs.Lines.{crosses, degree, parted, between}
@@ -27,7 +28,7 @@ half_law k g pairs P f d =
     div_ceil-le (k * length P - sum_by (λ X. degree X g.lines) P) 2 (length pairs) (omega arith) (omega (arith, demand, length-map pairs line_of))
 
 -- so many members fit a number
-pub few_members : (k : ℕ) (g : GraphValue) (P : List (List Bool)) → IsGraph g → 2 ≤ k → IsDual k g P → length P ≤ 4096
+pub few_members : (k : ℕ) (g : GraphValue) (P : List (List Bool)) → IsGraph g → 2 ≤ k → IsDual k g P → length P ≤ node_room
 few_members k g P ok two d = omega (arith, length-disjoint_family (length g.names) P (d.0 two), ok.makes.nodes)
 
 split_law : (g : GraphValue) (pairs : List (ℕ × ℕ)) (P : List (List Bool)) → IsGraph g → IsFeasible 1 g pairs → AreComponents g P → length P - 1 ≤ length pairs

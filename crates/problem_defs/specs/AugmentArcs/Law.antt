@@ -4,6 +4,7 @@ use Rattle.std.proofs.Common.{arith}
 use Rattle.std.proofs.lemmas.List.{length-map}
 use Rattle.std.proofs.lemmas.List.Sums.{sum_by-append}
 use Rattle.std.proofs.lemmas.List.Elements.{All-weaker, All-append}
+use Rattle.graph_core.specs.Limits.{node_room}
 use Rattle.graph_core.specs.Graph.{GraphValue, IsGraph, Fits, line_of, lines_of}
 use Rattle.graph_core.specs.Side.{IsProper}
 use Rattle.graph_core.specs.Lines.{enters, leaves}
@@ -20,7 +21,7 @@ use Rattle.problem_defs.specs.AugmentArcs.{Suits, IsFeasible, IsDual, bound}
 use Rattle.problem_defs.specs.Ways.{count_for}
 
 -- so many members fit a number
-pub few_members : (g : GraphValue) (dual : Family) → IsGraph g → IsDual g dual → length dual.sides ≤ 4096
+pub few_members : (g : GraphValue) (dual : Family) → IsGraph g → IsDual g dual → length dual.sides ≤ node_room
 few_members g dual ok d = omega (arith, length-disjoint_family (length g.names) dual.sides d, ok.makes.nodes)
 
 -- the new arcs, counted by member

@@ -11,7 +11,7 @@ use Rattle.problem_defs.specs.Ask.{misfit_of}
 use Rattle.problem_defs.specs.CutTree.{tree_lines, IsLeastCut, IsCutTree}
 use Rattle.problem_defs.specs.Few.{small as few}
 use Rattle.problem_defs.specs.Meets.{Meets}
-use Rattle.problem_defs.specs.Pairs.{AreIn}
+use Rattle.graph_core.specs.Pairs.{AreIn}
 use Rattle.problem_defs.specs.declared.ask.Ask.TheVariants.{CutTree}
 use Rattle.problem_defs.specs.declared.cert.Body.TheVariants.{Tree}
 

@@ -2,6 +2,7 @@
 use Rattle.std.proofs.Common.{ℕ, ◌≡◌, ◌<◌, ◌≤◌, ◌^◌, List, Bool, length, None, refl, arith, lit<}
 use Rattle.std.proofs.lemmas.List.Elements.{All-weaker}
 use Rattle.std.proofs.lemmas.List.Sums.{sum_by-le}
+use Rattle.graph_core.specs.Limits.{most_cost}
 use Rattle.graph_core.specs.Graph.{GraphValue, IsGraph, IsPriced}
 use Rattle.graph_core.specs.Picked.{picked, IsDistinct}
 use Rattle.graph_core.proofs.Counting.{All-picked}
@@ -22,7 +23,7 @@ dijoin_suits g none = record { kind = directed-of g.kind None none }
 -- no line costs more than 100
 pub cost-le : (g : GraphValue) (join : List ℕ) → IsGraph g → IsDistinct join → cost g join ≤ 6553600
 cost-le g join graph distinct =
-    let each = All-picked (λ l. l.cost ≤ 100) g.lines join (All-weaker (IsPriced g.kind) (λ l. l.cost ≤ 100) (λ l p. p.most) g.lines graph.makes.priced) in
+    let each = All-picked (λ l. l.cost ≤ most_cost) g.lines join (All-weaker (IsPriced g.kind) (λ l. l.cost ≤ most_cost) (λ l p. p.most) g.lines graph.makes.priced) in
     omega (arith, sum_by-le (λ l. l.cost) 100 (picked g.lines join) each, length-picked-le g.lines join distinct, graph.makes.few)
 
 pub dijoin-meets : (g : GraphValue) (join : List ℕ) (sides : List (List Bool)) → IsGraph g → misfit_of g Dijoin ≡ None → IsFeasible g join → IsDual g sides

@@ -2,7 +2,7 @@ use Rattle.std.proofs.Common.{◌≡◌, subst}
 use Rattle.std.proofs.lemmas.List.{take_all}
 use Rattle.std.specs.Bool.{OnFalse}
 use Rattle.graph_core.specs.Side.{has}
-use Rattle.problem_defs.specs.Pairs.{pair_at}
+use Rattle.graph_core.specs.Pairs.{pair_at}
 use Rattle.certificate_checker.specs.TreeSides.{AddsOther, AreUncrossed}
 use Rattle.certificate_checker.proofs.ReachLaws.{spread-first, spread-across, spread-along}
 use Rattle.certificate_checker.proofs.reach.spread.Goals as goal

@@ -1,6 +1,6 @@
 use Rattle.std.proofs.Common.{◌≡◌, ◌<◌, ◌≤◌, ℕ}
 use Rattle.graph_core.specs.Side.{has}
-use Rattle.problem_defs.specs.Pairs.{pair_at}
+use Rattle.graph_core.specs.Pairs.{pair_at}
 use Rattle.cut_trees.proofs.order.next_across.Given as goal
 
 abbrev pub invariant-loop-k : goal.invariant-loop-k

@@ -2,7 +2,7 @@ use Rattle.std.proofs.Common.{◌<◌, length, refl, ◌∙◌, arith, true}
 use Rattle.std.proofs.Math.ListN.{length-set}
 use Rattle.std.proofs.lemmas.List.Elements.{All-get_or}
 use Rattle.graph_core.specs.Side.{has}
-use Rattle.problem_defs.specs.Pairs.{no_pair, pair_at}
+use Rattle.graph_core.specs.Pairs.{no_pair, pair_at}
 use Rattle.cut_trees.specs.Order.{outward}
 use Rattle.cut_trees.proofs.Searched.{searched_first, searched_on, searched_more, All-brought, in-outward}
 use Rattle.cut_trees.proofs.order.search_from.Goals as goal

@@ -1,7 +1,7 @@
 use Rattle.std.proofs.Common.{◌≡◌, length, All}
 use Rattle.graph_core.specs.Graph.{GraphValue, Fits}
 use Rattle.problem_defs.specs.CutTree.{IsCutTree}
-use Rattle.problem_defs.specs.Pairs.{AreIn}
+use Rattle.graph_core.specs.Pairs.{AreIn}
 use Rattle.cut_trees.specs.Order.{IsSearched}
 use Rattle.cut_trees.proofs.order.search_from.Given as goal
 

@@ -1,7 +1,7 @@
 use Rattle.std.proofs.Common.{◌<◌, length, ◌∙◌, arith}
 use Rattle.std.proofs.Math.ListN.{length-set}
 use Rattle.std.proofs.lemmas.List.Elements.{All-get_or}
-use Rattle.problem_defs.specs.Pairs.{no_pair, pair_at}
+use Rattle.graph_core.specs.Pairs.{no_pair, pair_at}
 use Rattle.cut_trees.proofs.WayLaws.{cut_first, cut_more}
 use Rattle.cut_trees.proofs.way.part_at.Goals as goal
 

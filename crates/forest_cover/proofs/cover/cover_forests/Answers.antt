@@ -47,8 +47,9 @@ densest-requires-clause-some c =
     let count = c.line_count-in-improve.ensures.count in
     some_class (length g.names) g.lines c.known.ensures.makes.ends c.demand_of.result found.rows found.classes c.in_ok-rows.ensures (omega arith)
 
-pub improve-smaller : goal.improve-smaller
-improve-smaller c =
+-- the class that is taken asks for more forests
+asks_more : (c : goal.After-drop-rows-inside) → c.demand_of.result < demand c.args.graph.now.lines c.remove-side.result
+asks_more c =
     let g = c.args.graph.now in
     let found = c.in_ok-rows.field-0 in
     let most = rows-within g c.demand_of.result found.rows found.classes c.in_ok-rows.ensures in
@@ -56,24 +57,17 @@ improve-smaller c =
     let lines = c.lines_of.ensures in
     let count = c.line_count-in-improve.ensures.count in
     let more = denser (length g.names) g.lines c.known.ensures.makes.ends c.demand_of.result found.rows found.classes c.in_ok-rows.ensures (omega arith) c.densest.result c.densest.ensures in
-    let side = get_or_from_slice_get found.classes c.densest.result c.remove-side.result [] c.remove-side.ensures.item in
-    let next : c.demand_of.result < demand g.lines c.remove-side.result = subst (λ X. c.demand_of.result < demand g.lines X) side more in
-    let old = c.demand_of.ensures in
-    let bound = demand_most g.lines c.remove-side.result in
-    omega arith
+    subst (λ X. c.demand_of.result < demand g.lines X) (get_or_from_slice_get found.classes c.densest.result c.remove-side.result [] c.remove-side.ensures.item) more
+
+pub improve-smaller : goal.improve-smaller
+improve-smaller c = omega (arith, asks_more c, c.demand_of.ensures, demand_most c.args.graph.now.lines c.remove-side.result)
 
 pub improve-preserved : goal.improve-preserved
 improve-preserved c =
     let g = c.args.graph.now in
-    let found = c.in_ok-rows.field-0 in
-    let most = rows-within g c.demand_of.result found.rows found.classes c.in_ok-rows.ensures in
-    let ne = c.if-lines_of-line_count.false in
-    let lines = c.lines_of.ensures in
-    let count = c.line_count-in-improve.ensures.count in
-    let more = denser (length g.names) g.lines c.known.ensures.makes.ends c.demand_of.result found.rows found.classes c.in_ok-rows.ensures (omega arith) c.densest.result c.densest.ensures in
-    let side = get_or_from_slice_get found.classes c.densest.result c.remove-side.result [] c.remove-side.ensures.item in
-    let next : c.demand_of.result < demand g.lines c.remove-side.result = subst (λ X. c.demand_of.result < demand g.lines X) side more in
+    let classes = c.in_ok-rows.field-0.classes in
+    let side = get_or_from_slice_get classes c.densest.result c.remove-side.result [] c.remove-side.ensures.item in
     record {
       nonempty = subst (IsNonempty (length g.names)) side (c.in_ok-rows.ensures.partition.nonempty c.densest.result [] c.densest.ensures.below);
-      large = demand_some g.lines c.remove-side.result (omega arith);
+      large = demand_some g.lines c.remove-side.result (omega (arith, asks_more c));
     }

@@ -1,7 +1,7 @@
 use Rattle.std.proofs.Common.{◌≡◌, ◌++◌, true, length, ap, ◌∙◌, arith}
 use Rattle.std.proofs.lemmas.List.{length-map}
 use Rattle.graph_core.specs.Graph.{lines_of}
-use Rattle.split_undirected.specs.Split.{apart}
+use Rattle.graph_core.specs.Pairs.{apart}
 use Rattle.nw_orientation.specs.Chosen.{chosen}
 use Rattle.nw_orientation.specs.Moved.{moved_line, apart_marks}
 use Rattle.nw_orientation.proofs.StarLaws.{can_be_split, is_split_off, fits_apart, room_after}

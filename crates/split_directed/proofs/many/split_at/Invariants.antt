@@ -1,6 +1,6 @@
 use Rattle.std.proofs.Common.{◌≡◌, ◌+◌, ◌-◌, length, sum}
 use Rattle.graph_core.specs.Side.{size}
-use Rattle.split_directed.specs.StarValue.{star_of}
+use Rattle.cut_fn.specs.Stars.{star_of}
 use Rattle.split_directed.specs.State.{left_of, IsState}
 use Rattle.split_directed.specs.Turn.{IsTurn}
 use Rattle.split_directed.proofs.many.split_at.Given as goal

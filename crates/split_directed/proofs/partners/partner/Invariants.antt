@@ -1,6 +1,6 @@
 use Rattle.std.proofs.Common.{◌≡◌, ◌-◌, length}
 use Rattle.graph_core.specs.Side.{size}
-use Rattle.split_directed.specs.StarValue.{star_of}
+use Rattle.cut_fn.specs.Stars.{star_of}
 use Rattle.split_directed.specs.Turn.{IsWitness}
 use Rattle.split_directed.proofs.partners.partner.Given as goal
 

@@ -1,6 +1,6 @@
 use Rattle.std.proofs.Common.{◌≡◌, ◌<◌, ℕ}
 use Rattle.problem_defs.specs.CutTree.{IsLeastCut}
-use Rattle.problem_defs.specs.Pairs.{pair_at}
+use Rattle.graph_core.specs.Pairs.{pair_at}
 use Rattle.certificate_checker.proofs.cut_tree.Cuts.are_right.Given as goal
 
 abbrev pub invariant-loop-j : goal.invariant-loop-j

@@ -1,6 +1,6 @@
 use Rattle.std.proofs.Common.{length, sym, subst, ◌∙◌}
 use Rattle.std.proofs.lemmas.Bool.{false≢true}
-use Rattle.problem_defs.specs.Pairs.{pair_at}
+use Rattle.graph_core.specs.Pairs.{pair_at}
 use Rattle.certificate_checker.specs.TreeSides.{IsReach}
 use Rattle.certificate_checker.proofs.TreeLaws.{right-pair, pair-weight}
 use Rattle.certificate_checker.proofs.cut_tree.Cuts.is_right.Goals as goal

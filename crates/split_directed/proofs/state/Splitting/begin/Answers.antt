@@ -1,7 +1,7 @@
 use Rattle.std.proofs.Common.{ap, ◌∙◌, map}
 use Rattle.problem_defs.specs.declared.cert.Way.TheVariants.{Entering, Leaving}
 use Rattle.flow_cuts.specs.NewNode.{arc_by}
-use Rattle.split_directed.specs.StarValue.{star_of}
+use Rattle.cut_fn.specs.Stars.{star_of}
 use Rattle.split_directed.proofs.Halves.{shows_begin}
 use Rattle.split_directed.proofs.state.Splitting.begin.Goals as goal
 

@@ -1,7 +1,7 @@
 use Rattle.std.proofs.Common.{◌≡◌, ◌≤◌, length, sym, ap, ◌∙◌, arith}
 use Rattle.problem_defs.specs.declared.cert.Way.TheVariants.{Entering, Leaving}
 use Rattle.split_directed.specs.Rows.{split}
-use Rattle.split_directed.specs.StarValue.{star_of}
+use Rattle.cut_fn.specs.Stars.{star_of}
 use Rattle.split_directed.specs.State.{left_of}
 use Rattle.split_directed.proofs.Halves.{shows_split}
 use Rattle.split_directed.proofs.Rows.{after-push}
