@@ -1,15 +1,16 @@
 #!/usr/bin/env python3
 """Plants bugs by hand, and says which of them a proof refuses, and which a test.
 
-usage: plant.py [--alone] [--jobs N] [--log FILE] [--only WORDS] [NAME..]
+usage: plant.py [--alone] [--proofs | --tests] [--jobs N] [--log FILE] [--only WORDS] [NAME..]
 
 The bugs of a crate stand in tools/plants/NAME.txt, with blank lines between: a line that says what is wrong, and then
 the lines 'file:', 'old:' and 'new:' of a must-fail edit. They are tried in a copy of the repository. The proof of a
 function sees of the others only their contracts, so that bugs in different functions are tried by one check; with
 --alone each is tried by itself, as a must-fail edit. A bug that no proof refuses, or that is refused only since a proof
 names what it took away, is tried by itself with the tests of library_tests, solver_tests and connect_tests; a test that
-runs out of time catches nothing. --only takes the bugs whose title has the words (a regular expression). Ends with 0
-where each bug is refused by a proof or caught by a test.
+runs out of time catches nothing. --only takes the bugs whose title has the words (a regular expression). With --proofs
+no tests are asked, and with --tests no proofs, as where the bugs that no proof refused are known. Ends with 0 where each
+bug is refused by a proof or caught by a test.
 """
 
 import os
@@ -227,27 +228,31 @@ def try_tests(room, plant):
 # ---- what is told
 
 def untold(plant):
-    return plant.kind in ("proved", "script") and not plant.caught or plant.kind == "unread"
+    return plant.kind in ("proved", "script", None) and not plant.caught or plant.kind == "unread"
 
 
-def tell(crate, plants):
+def tell(crate, plants, tested):
     count = lambda kind: sum(plant.kind == kind for plant in plants)
     print(f"\n{crate}: {len(plants)} planted, {count('refused')} refused by a proof, {count('script')} only by a proof's names, "
           f"{count('proved')} still proved, {count('unread')} not compiled")
     for plant in plants:
-        caught = f", caught by a test of {plant.caught}" if plant.caught else ", CAUGHT BY NO TEST" if untold(plant) else ""
-        print(f"  {plant.kind}{caught}: {plant.title}\n      {plant.function.split('::', 1)[-1]}: {' '.join(plant.said.split())[:150]}", flush=True)
+        caught = f", caught by a test of {plant.caught}" if plant.caught else ""
+        if untold(plant) and plant.kind != "unread":
+            caught = ", CAUGHT BY NO TEST" if tested else ", not tried by tests"
+        print(f"  {plant.kind or 'no proof was asked'}{caught}: {plant.title}\n      {plant.function.split('::', 1)[-1]}: {' '.join(plant.said.split())[:150]}", flush=True)
 
 
 def main(words):
     if {"-h", "--help"} & {*words}:
         print(__doc__)
         return 0
-    jobs, log, alone, only = 2, None, False, ""
+    jobs, log, alone, only, asked = 2, None, False, "", {"--proofs", "--tests"}
     while words and words[0].startswith("--"):
         flag = words.pop(0)
         if flag == "--alone":
             alone = True
+        elif flag in asked and len(asked) == 2:
+            asked = {flag}
         elif flag == "--jobs":
             jobs = int(words.pop(0))
         elif flag == "--log":
@@ -263,11 +268,12 @@ def main(words):
         room = Path(made)
         copy_repository(room)
         for crate, plants in planted.items():
-            (try_alone if alone else try_proofs)(room, crate, plants, jobs, keep)
-            for plant in plants:
-                if plant.kind in ("proved", "script"):
+            if "--proofs" in asked:
+                (try_alone if alone else try_proofs)(room, crate, plants, jobs, keep)
+            for plant in plants if "--tests" in asked else []:
+                if plant.kind in ("proved", "script", None):
                     plant.caught = try_tests(room, plant)
-            tell(crate, plants)
+            tell(crate, plants, "--tests" in asked)
     every = [plant for plants in planted.values() for plant in plants]
     print(f"\n{len(every)} planted, {sum(map(untold, every))} neither refused nor caught")
     return 1 if any(map(untold, every)) else 0
