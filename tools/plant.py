@@ -7,8 +7,8 @@ The bugs of a crate stand in tools/plants/NAME.txt, with blank lines between: a 
 the lines 'file:', 'old:' and 'new:' of a must-fail edit. They are tried in a copy of the repository. The proof of a
 function sees of the others only their contracts, so that bugs in different functions are tried by one check; with
 --alone each is tried by itself, as a must-fail edit. A bug that no proof refuses, or that is refused only since a proof
-names what it took away, is tried by itself with the tests of library_tests, solver_tests and connect_tests; a test that
-runs out of time catches nothing. --only takes the bugs whose title has the words (a regular expression). With --proofs
+names what it took away, is tried by itself with the tests of library_tests, solver_tests and connect_tests that stand on
+its crate; a test that runs out of time catches nothing. --only takes the bugs whose title has the words (a regular expression). With --proofs
 no tests are asked, and with --tests no proofs, as where the bugs that no proof refused are known. Ends with 0 where each
 bug is refused by a proof or caught by a test.
 """
@@ -201,6 +201,13 @@ def judged_alone(said):
 
 # ---- tests
 
+def stands_on(crate, below):
+    """Whether a crate stands on another, by crates.txt, or is it."""
+    lines = (line.split("#")[0].partition(":") for line in (ROOT / "crates.txt").read_text(encoding="utf-8").splitlines())
+    uses = {name.strip(): words.split() for name, _, words in lines}
+    return crate == below or any(stands_on(other, below) for other in uses.get(crate, []))
+
+
 def failures(said):
     """What the tests that failed said. One that only ran out of time caught nothing: the bug may be that it is slow."""
     blocks = re.findall(r"^test .* FAILED\n(?: .*\n)*", said, re.M)
@@ -210,7 +217,7 @@ def failures(said):
 def try_tests(room, plant):
     """The first suite of tests that fails with the bug, or None."""
     with Planted(room / "crates" / plant.crate, [plant]):
-        for suite in SUITES:
+        for suite in (name for name in SUITES if stands_on(name, plant.crate)):
             said, status = rt(room / "crates" / suite, ["try", "--test"], 1)
             if status == 2 or "error[" in said:
                 plant.kind, plant.said = "unread", said[:300]
