@@ -59,7 +59,7 @@ is_the_same() {
 # What is told of a build, by the program's record.
 reason() {
     if [ -z "$1" ]; then
-        echo "the first use proves and builds the program: some half an hour on four processors, and later only what a change touches"
+        echo "the first use proves and builds the program: a quarter of an hour to half an hour on four processors, and later only what a change touches"
     elif [ ! -r "$record" ]; then
         echo "no finished build is here, since an earlier one was stopped or failed: what is left is proved now"
     elif { read -r _; read -r _; read -r version; } <"$record" && [ "$version" != "$2" ]; then

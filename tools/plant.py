@@ -8,9 +8,9 @@ the lines 'file:', 'old:' and 'new:' of a must-fail edit. They are tried in a co
 function sees of the others only their contracts, so that bugs in different functions are tried by one check; with
 --alone each is tried by itself, as a must-fail edit. A bug that no proof refuses, or that is refused only since a proof
 names what it took away, is tried by itself with the tests of library_tests, solver_tests and connect_tests that stand on
-its crate; a test that runs out of time catches nothing. --only takes the bugs whose title has the words (a regular expression). With --proofs
-no tests are asked, and with --tests no proofs, as where the bugs that no proof refused are known. Ends with 0 where each
-bug is refused by a proof or caught by a test.
+its crate; a test that runs out of time catches nothing. --only takes the bugs whose title has the words (a regular
+expression). With --proofs no tests are asked, and with --tests no proofs, as where the bugs that no proof refused are
+known. Ends with 0 where each bug is refused by a proof or caught by a test.
 """
 
 import os

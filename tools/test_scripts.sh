@@ -24,6 +24,7 @@ try() {
 }
 
 for test in "$here"/test_*.py; do try "$here" python3 "$test"; done
+try "$here" python3 "$here/theorem_files.py"
 if [ -x "$program" ]; then
     CONNECT=$program
     export CONNECT

@@ -8,6 +8,7 @@ of the forms of forms.py. The values of larger ones are compared with those of t
 Ends with 0 where all came out as wanted. Else it says what didn't, leaves the input as failed.graph, and ends with 1.
 """
 
+import os
 import random
 import subprocess
 import sys
@@ -167,6 +168,20 @@ def fail(words, data, got, wanted):
     sys.exit(f"connect {' '.join(words)} < failed.graph\n got {got}\n wanted {wanted}")
 
 
+def try_streams(program):
+    """Words that are no text, a source that fails, and a sink that takes nothing: the exit numbers that only the real edges give."""
+    graph = b"graph undirected\nnode a\nend\n"
+    got = subprocess.run([program, b"flow", b"\xff", b"b"], input=graph, capture_output=True, check=False)
+    expect(["flow", "(no text)", "b"], graph, (got.stdout, got.stderr, got.returncode), (b"", b"", 10))
+    folder = os.open("/", os.O_RDONLY)
+    got = subprocess.run([program, "forests"], stdin=folder, capture_output=True, check=False)
+    os.close(folder)
+    expect(["forests"], b"", (got.stdout, got.stderr, got.returncode), (b"", b"", 7))
+    with open("/dev/full", "wb") as full:
+        got = subprocess.run([program, "forests"], input=graph, stdout=full, stderr=subprocess.PIPE, check=False)
+    expect(["forests"], graph, (got.stderr, got.returncode), (b"", 8))
+
+
 # ---- random texts
 
 def rarely(form, most):
@@ -320,6 +335,7 @@ def main(words):
     random.seed(seed)
     with tempfile.TemporaryDirectory() as room:
         yardstick = bench.yardstick(room)
+        try_streams(program)
         try_all(program, rounds)
     print(f"{rounds} rounds from seed {seed}: as wanted")
 

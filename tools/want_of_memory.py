@@ -14,6 +14,7 @@ import shutil
 import subprocess
 import sys
 import tempfile
+from itertools import combinations
 from pathlib import Path
 
 HERE = Path(__file__).resolve().parent
@@ -34,6 +35,11 @@ arc c a
 end
 """
 
+# The complete digraph on three nodes, and the complete graph on five.
+COMPLETE = b"graph directed\nnode a\nnode b\nnode c\narc a b\narc b a\narc a c\narc c a\narc b c\narc c b\nend\n"
+WHOLE = b"graph undirected\nnode a\nnode b\nnode c\nnode d\nnode e\n" + b"".join(
+    b"edge %c %c\n" % ends for ends in combinations(b"abcde", 2)) + b"end\n"
+
 # The words and the graph. Each answer is checked as well, where it is a certificate.
 COMMANDS = [
     ("flow a d", "square.graph"),
@@ -43,13 +49,19 @@ COMMANDS = [
     ("cuttree", "square.graph"),
     ("cuttree", "backbone.graph"),
     ("arborescences r", DIGRAPH),
+    ("arborescences a", COMPLETE),
     ("trees", "square.graph"),
+    ("trees", "k4.graph"),
     ("trees", "backbone.graph"),
     ("forests", "square.graph"),
     ("forests", "backbone.graph"),
+    ("augment 2", b"graph undirected\nnode a\nnode b\nnode c\nedge a b\nedge b c\nend\n"),
     ("augment 3", "backbone.graph"),
+    ("augment-arcs 1", b"graph directed\nnode a\nnode b\nnode c\narc a b\narc a c\nend\n"),
     ("augment-arcs 2", DIGRAPH),
     ("orient 1", "backbone.graph"),
+    ("orient 2", WHOLE),
+    ("dijoin", b"graph directed\nnode x\nnode y\nnode z\narc x y\narc z y\nend\n"),
     ("dijoin", b"graph directed\nnode x\nnode y 3\nnode z\narc x y cost 2\narc z y\nend\n"),
     ("trial trees 2 0", b""),
     # Refusals, which take memory, too.

@@ -13,7 +13,7 @@ use star_net::{TightArcStar, least_arc_star};
 use std::alloc::Global;
 
 /// Fewest new arcs that make the digraph `k`-arc-connected, and disjoint sides that show that no fewer do (Frank 1992): a least
-/// star is split off, and the sides that are tight in it lack as many arcs as it has.
+/// star is split off, and the sides that are tight in it lack as many arcs as it has either way.
 pub fn augment_arcs(
     alloc: Global,
     graph: &Graph,

@@ -18,7 +18,7 @@ use Rattle.graph_core.proofs.ProperLaws.{node_in, node_out}
 use Rattle.graph_core.proofs.SideLaws.{has-below}
 use Rattle.cut_fn.specs.Members.{member}
 use Rattle.graphic_matroid.specs.Components.{AreComponents}
-use Rattle.augment_edges.specs.Row.{pair_at, AreInRow}
+use Rattle.augment_edges.specs.Row.{joined_at, AreInRow}
 
 -- a class that holds a node
 class_with : (P : List (List Bool)) (v : ℕ) → 1 ≤ members_with v P → (i : ℕ) × (i < length P) × (has (member P i) v ≡ true)
@@ -39,10 +39,10 @@ module _ {n : ℕ} {ls : List Line} {P : List (List Bool)} {pairs : List (ℕ ×
   node_below : (j v : ℕ) → j < length P → has (member P j) v ≡ true → v < n
   node_below j v l h = omega (arith, has-below (member P j) v h, (nonempty j l).long)
 
-  fits_at : (j : ℕ) → j < length pairs → Fits n (line_of (pair_at pairs j))
+  fits_at : (j : ℕ) → j < length pairs → Fits n (line_of (joined_at pairs j))
   fits_at j l =
-      let u = (pair_at pairs j).0 in
-      let v = (pair_at pairs j).1 in
+      let u = (joined_at pairs j).0 in
+      let v = (joined_at pairs j).1 in
       let lj : j < length P = omega (arith, row.many) in
       let lk : j + 1 < length P = omega (arith, row.many) in
       let below = node_below j u lj (row.first j l) in
@@ -74,9 +74,9 @@ module _ {n : ℕ} {ls : List Line} {P : List (List Bool)} {pairs : List (ℕ ×
           ]
         ]
 
-    in_pair : (j : ℕ) → j < length pairs → has X (pair_at pairs j).0 ≡ has X (pair_at pairs j).1
+    in_pair : (j : ℕ) → j < length pairs → has X (joined_at pairs j).0 ≡ has X (joined_at pairs j).1
     in_pair j l =
-        same_side (has X (pair_at pairs j).0) (has X (pair_at pairs j).1)
+        same_side (has X (joined_at pairs j).0) (has X (joined_at pairs j).1)
         (All-get_or (λ p. differ (has X p.0) (has X p.1) ≡ false) pairs j (0, 0) l (none-pass (λ p. differ (has X p.0) (has X p.1)) pairs (sym (count_by-map (crosses X) line_of pairs) ∙ new)))
 
     -- so it has all nodes, or none
@@ -85,7 +85,7 @@ module _ {n : ℕ} {ls : List Line} {P : List (List Bool)} {pairs : List (ℕ ×
     in_row (suc j) l u v hu hv =
         let lj : j < length pairs = omega (arith, row.many) in
         let e : j + 1 ≡ suc j = omega arith in
-        let p = pair_at pairs j in
+        let p = joined_at pairs j in
         let next : has (member P (suc j)) p.1 ≡ true = ap (λ i. has (member P i) p.1) (sym e) ∙ row.second j lj in
         in_row j (omega arith) u p.0 hu (row.first j lj) ∙ in_pair j lj ∙ in_class (suc j) l p.1 v next hv
 

@@ -9,8 +9,8 @@ use graph_core::{Graph, NoMemory};
 use problem_defs::{AugmentAsk, Certified, Problem};
 use std::alloc::Global;
 
-/// Fewest new edges that make the graph `k`-edge-connected, and what shows that fewer don't: disjoint sides that lack so many
-/// edges, or the components where `k` is 1 (Watanabe and Nakamura 1987; Frank 1992).
+/// Fewest new edges that make the graph `k`-edge-connected, and what shows that fewer don't: disjoint sides that lack twice as
+/// many edges, or one less, or the components where `k` is 1 (Watanabe and Nakamura 1987; Frank 1992).
 pub fn augment(alloc: Global, graph: &Graph, k: u32) -> Result<Certified<AugmentAsk>, NoMemory>
     requires size { IsWithinSize graph.now }
     requires suits { Suits k graph.now }

@@ -146,9 +146,6 @@ pub line-turned : (X : List Bool) (u v : ℕ) → across (has X v) (has X u) 1 �
 line-turned X u v = enters-across (has X u) (has X v)
 
 module _ (n k : ℕ) where
-  pub more-none : (table : List ℕ) (g : List Bool → ℕ) → ((X : List Bool) → g X ≡ 0) → CountsMore n k table table g
-  more-none table g none f counts = counts-same n k table f (λ X. f X + g X) (λ X. let e = none X in omega arith) counts
-
   pub more-same : (old new : List ℕ) (g h : List Bool → ℕ) → ((X : List Bool) → g X ≡ h X) → CountsMore n k old new g → CountsMore n k old new h
   more-same old new g h same more f counts = counts-same n k new (λ X. f X + g X) (λ X. f X + h X) (λ X. ap (λ m. f X + m) (same X)) (more f counts)
 
@@ -163,10 +160,6 @@ more-at n n' k k' old new g en ek more = subst (λ i. CountsMore i k' old new g)
 pub count-next : (kind : Kind) (X : List Bool) (ls : List Line) (l : Line) → cut_count kind X (ls ++ l ∷ []) ≡ cut_count kind X ls + line_count kind X l.tail l.head
 count-next Undirected X ls l = sum_by-append (λ x. weight (crosses X x)) ls (l ∷ []) ∙ ap (λ m. degree X ls + m) (sum_by-cons (λ x. weight (crosses X x)) l [] ∙ omega arith)
 count-next Directed X ls l = sum_by-append (λ x. weight (enters X x)) ls (l ∷ []) ∙ ap (λ m. entering X ls + m) (sum_by-cons (λ x. weight (enters X x)) l [] ∙ omega arith)
-
-pub count-none : (kind : Kind) (X : List Bool) → cut_count kind X [] ≡ 0
-count-none Undirected X = refl
-count-none Directed X = refl
 
 pub count-append : (kind : Kind) (X : List Bool) (ls more : List Line) → cut_count kind X (ls ++ more) ≡ cut_count kind X ls + cut_count kind X more
 count-append Undirected X ls more = sum_by-append (λ x. weight (crosses X x)) ls more

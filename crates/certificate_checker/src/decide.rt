@@ -16,6 +16,7 @@ pub trait Decide: Certify {
 
     ghost dual_fits: { GraphValue → Self.Dual → Type 0 };
 
+    /// Whether the object is feasible.
     fn is_object(
         &self,
         alloc: Global,
@@ -26,6 +27,7 @@ pub trait Decide: Certify {
         requires fits { object_fits graph.now object.now }
         ensures { IfOk result (λ is. IsTrue is ↔ Self.feasible self.now graph.now object.now) };
 
+    /// Whether the dual is feasible.
     fn is_dual(&self, graph: &Graph, dual: &Self::Dual) -> bool
         requires suits { Self.suits self.now graph.now }
         requires fits { dual_fits graph.now dual.now }

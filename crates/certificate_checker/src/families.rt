@@ -29,7 +29,7 @@ pub fn is_partition(classes: &Sides, count: u32) -> bool
     requires { AreSides count classes.now }
     ensures { IsTrue result ↔ IsPartition count classes.now }
 {
-    // (a text may have millions of them)
+    // A text may have millions of them, and a partition has at most one for each node.
     if classes.len() > count as usize {
         return false;
     }

@@ -1,6 +1,6 @@
 use thiserror::Error;
 
-/// Why a text is refused. Lines are counted from 1.
+/// Why a text is refused: the first of these that holds, unless memory runs out. Lines are counted from 1.
 #[derive(Clone, Copy, Debug, PartialEq, Eq, Error)]
 pub enum Rejection {
     #[error("no certificate text goes on as line {line} does")]

@@ -11,7 +11,7 @@ pub fn one_certificate()
     ensures { (g : GraphValue) (a b : Cert) (r s : List ℕ) → IsGraph g → IsShaped g a → IsShaped g b → text g a ++ r ≡ text g b ++ s → a ≡ b }
 {}
 
-/// No certificate text goes on to another one.
+/// No certificate text is the beginning of another one.
 pub fn no_prefix()
     ensures { (g : GraphValue) (a b : Cert) (more : List ℕ) → IsGraph g → IsShaped g a → IsShaped g b → text g b ≡ text g a ++ more → more ≡ [] }
 {}

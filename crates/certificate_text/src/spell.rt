@@ -14,6 +14,7 @@ use graph_core::{
 };
 use itoa::Buffer;
 
+/// The bytes.
 pub fn push_text(text: &mut Vec<u8>, part: &[u8]) -> Result<(), NoMemory>
     ensures { OnOk result (text.new.items ≡ text.old.items ++ part.now) }
 {
@@ -41,6 +42,7 @@ pub fn push_name(text: &mut Vec<u8>, graph: &Graph, v: u32) -> Result<(), NoMemo
     push_text(text, graph.name(v).bytes())
 }
 
+/// The `value` line.
 pub fn push_value(text: &mut Vec<u8>, value: u64) -> Result<(), NoMemory>
     ensures { OnOk result (text.new.items ≡ text.old.items ++ words_of.word_line (codes "value") (decimal value)) }
 {
@@ -125,6 +127,7 @@ fn push_tree_line(
     push_text(text, b"\n")
 }
 
+/// A `tree` line for each pair.
 pub fn push_trees(text: &mut Vec<u8>, graph: &Graph, pairs: &WeightedPairs) -> Result<(), NoMemory>
     requires { All (λ p. (p.0 < length graph.now.names) × (p.1 < length graph.now.names)) pairs.now }
     ensures { OnOk result (text.new.items ≡ text.old.items ++ flat_map (λ p. line_text graph.now (line.Tree p.0 p.1 p.2)) pairs.now) }
@@ -164,6 +167,7 @@ fn push_turned_line(
     }
 }
 
+/// The `dual` line.
 pub fn push_dual(text: &mut Vec<u8>, kind: DualKind) -> Result<(), NoMemory>
     ensures { OnOk result (text.new.items ≡ text.old.items ++ words_of.word_line (codes "dual") (words_of.dual_word kind)) }
 {
@@ -190,6 +194,7 @@ pub fn dual_word(kind: DualKind) -> &'static [u8]
     }
 }
 
+/// A `set` line, with the names in the order of the nodes.
 pub fn push_set(text: &mut Vec<u8>, graph: &Graph, side: &Side) -> Result<(), NoMemory>
     requires { length side.now ≡ length graph.now.names }
     ensures { OnOk result (text.new.items ≡ text.old.items ++ line_text graph.now (line.Set side.now)) }
@@ -214,6 +219,7 @@ fn push_member(text: &mut Vec<u8>, graph: &Graph, side: &Side, v: u32) -> Result
     Ok(())
 }
 
+/// A `set` line for each side.
 pub fn push_sets(text: &mut Vec<u8>, graph: &Graph, sides: &Sides) -> Result<(), NoMemory>
     requires { All (λ X. length X ≡ length graph.now.names) sides.now }
     ensures { OnOk result (text.new.items ≡ text.old.items ++ flat_map (λ X. line_text graph.now (line.Set X)) sides.now) }

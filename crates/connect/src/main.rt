@@ -7,10 +7,10 @@ use std::env;
 use std::io::ErrorKind;
 use std::process::ExitCode;
 
-/// No memory was found for the words.
+/// The number of `Status::NoMemory`: none was found for the words.
 const NO_MEMORY: u8 = 9;
 
-/// The system refused the words for another cause.
+/// The number of no `Status`: the system refused the words for another cause.
 const WORDS_REFUSED: u8 = 10;
 
 fn main(rt: HostRuntime) -> ExitCode {

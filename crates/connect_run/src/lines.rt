@@ -13,7 +13,7 @@ use graph_text::Why;
 use itoa::Buffer;
 use problem_defs::{Body, Misfit};
 
-/// A line that takes no memory.
+/// A line of at most 64 bytes, kept in the value itself, so that no memory is asked for.
 pub type ShortLine = ArrayVec<u8, 64>;
 
 /// The answer to words whose first bad place this is.

@@ -9,13 +9,19 @@ pub enum Status {
     Impossible,
     /// The certificate that was to be checked is wrong.
     Rejected,
+    /// The words are no command.
     BadWords,
+    /// The input is no graph text.
     BadGraph,
+    /// The input has too many bytes, or its graph more than a text may have.
     TooLarge,
     /// What was asked doesn't suit the graph.
     Unsuited,
+    /// The input could not be read. Nothing was written.
     ReadFault,
+    /// The answer could not be written whole.
     WriteFault,
+    /// Memory ran out. Nothing was written.
     NoMemory,
 }
 

@@ -1,5 +1,5 @@
 use crate::examples::ONE_NODE;
-use crate::run::{answer, graph_text, same};
+use crate::run::{answer, graph_text, joined, same};
 use std::alloc::Global;
 use std::process::Abort;
 use std::test::Fail;
@@ -293,6 +293,8 @@ fn the_limit_of_costs(rt: HostRuntime) -> Result<(), Fail> {
     let (certificate, status) = answer(alloc, "dijoin", &within)?;
     let begins = certificate.starts_with(b"certificate 1\ncommand dijoin\nvalue 100\njoin ");
     same(&rt, &(begins, status), &(true, 0), &"dijoin");
+    let (said, _) = answer(alloc, "check", &joined(alloc, &within, &certificate)?)?;
+    same(&rt, &said.as_slice(), &b"accepted\n".as_slice(), &"check");
     text.extend_from_slice(b"arc a b cost 100\nend\n")?;
     are_answered(
         &rt,

@@ -430,7 +430,7 @@ const ORIENTED: [Row<'static>; 16] = [
     ),
 ];
 
-const CHANGED: [Row<'static>; 13] = [
+const CHANGED: [Row<'static>; 14] = [
     // As it was answered, and with the paths exchanged.
     (
         SQUARE,
@@ -513,6 +513,13 @@ const CHANGED: [Row<'static>; 13] = [
         SQUARE,
         b"certificate 1\ncommand flow a d\nvalue 18446744073709551615\npath 3 4\npath 1 2\ndual cut\nset a\nend\n",
         b"rejected gap\n",
+        2,
+    ),
+    // An edge that doesn't help.
+    (
+        PATH,
+        b"certificate 1\ncommand augment 2\nvalue 1\nedge a b\ndual subpartition\nset a\nset c\nend\n",
+        b"rejected infeasible\n",
         2,
     ),
 ];

@@ -22,6 +22,15 @@ const AMPLE: Sizes = Sizes {
     room: 65536,
 };
 
+/// The words that stand between blanks.
+pub fn words_of(alloc: Global, words: &str) -> Result<Vec<String>, AllocError> {
+    let mut list = Vec::new(alloc);
+    for word in words.split_whitespace() {
+        list.push(String::from_str(alloc, word)?)?;
+    }
+    Ok(list)
+}
+
 /// What is written, and the status. The words stand between blanks. A call of source or sink fails where its plan says so.
 pub fn run(
     alloc: Global,
@@ -34,10 +43,7 @@ pub fn run(
     requires read { 1 ≤ sizes.read }
     requires write { 1 ≤ sizes.write }
 {
-    let mut list = Vec::new(alloc);
-    for word in words.split_whitespace() {
-        list.push(String::from_str(alloc, word)?)?;
-    }
+    let list = words_of(alloc, words)?;
     let mut source = MemSource::new(input, sizes.read, reads);
     let mut sink = MemSink::new(vec![in alloc; 0u8; sizes.room]?, sizes.write, writes);
     let status = connect_run(alloc, &list, &mut source, &mut sink);

@@ -1,5 +1,5 @@
 -- Commands, and the blanks behind their first words.
-use Rattle.std.proofs.Common.{◌≡◌, ℕ, ◌^◌, ◌-◌, ◌<◌, ◌≤◌, List, [], ◌∷◌, Some, refl, sym, ◌∙◌, ap, subst, arith}
+use Rattle.std.proofs.Common.{◌≡◌, ℕ, List, [], ◌∷◌, refl}
 use Rattle.std.specs.Fmt.{decimal}
 use Rattle.problem_defs.specs.Ask.{IsK}
 use Rattle.connect_words.specs.declared.command.Command.{Command}
@@ -11,7 +11,7 @@ use Rattle.problem_defs.specs.declared.verb.Verb.TheVariants as verb
 use Rattle.connect_words.specs.declared.blank.Blank.{Blank}
 use Rattle.connect_words.specs.declared.blank.Blank.TheVariants.{Name, Kind, K, Nodes, Number}
 use Rattle.connect_words.specs.Commands.{Place, word, name, Stands, Fill, Writes, IsNodes, IsNumber, kind_word, places}
-use Rattle.connect_words.specs.Blanks.{MayStand, AllMayStand, blanks, first_word, first_of, Reads}
+use Rattle.connect_words.specs.Blanks.{MayStand, AllMayStand, blanks, first_word, first_of}
 
 -- what stands at a place may stand in the blank
 abbrev Covers : List Blank → List Place → Type 0
@@ -66,35 +66,6 @@ a_name (w ∷ ws) h = (tt, nothing ws h.1)
 names : (ws : List (List ℕ)) → AllMayStand (Name ∷ Name ∷ []) ws → Fill (name ∷ name ∷ []) ws
 names [] h = h
 names (w ∷ ws) h = (tt, a_name ws h.1)
-
-fits_number : (low high n : ℕ) → high < 2 ^ 32 → (low ≤ n) × (n ≤ high) → n < 2 ^ 32
-fits_number low high n small h = omega (arith, h.0, h.1, small)
-
-a_k : (k : ℕ) (v : List ℕ) (ws : List (List ℕ)) → AllMayStand (K ∷ []) ws → Reads (v ∷ ws) (Augment k) → IsK k × Fill (word (decimal k) ∷ []) ws
-a_k k v [] h reads = absurd h
-a_k k v (w ∷ ws) ((n, limits, same), rest) reads =
-    let e : k ≡ n = reads n (fits_number 1 32 n (omega arith) limits) (ap Some same) in
-    (subst IsK (sym e) limits, (same ∙ ap decimal (sym e), nothing ws rest))
-
-the_trial : (kind : TrialKind) (nodes number : ℕ) (v : List ℕ) (ws : List (List ℕ)) → AllMayStand (Kind ∷ Nodes ∷ Number ∷ []) ws → Reads (v ∷ ws) (Trial kind nodes number) → (IsNodes nodes × IsNumber number) × Fill (word (kind_word kind) ∷ word (decimal nodes) ∷ word (decimal number) ∷ []) ws
-the_trial kind nodes number v [] h reads = absurd h
-the_trial kind nodes number v (a ∷ []) h reads = absurd h.1
-the_trial kind nodes number v (a ∷ b ∷ []) h reads = absurd h.1.1
-the_trial kind nodes number v (a ∷ b ∷ c ∷ ws) ((k, is_k), ((n, few, is_n), ((m, fits, is_m), rest))) (kinds, many, seeds) =
-    let ek : kind ≡ k = kinds k (ap Some is_k) in
-    let en : nodes ≡ n = many n (fits_number 2 128 n (omega arith) few) (ap Some is_n) in
-    let em : number ≡ m = seeds m (fits_number 0 (2 ^ 32 - 1) m (omega arith) fits) (ap Some is_m) in
-    ((subst IsNodes (sym en) few, subst IsNumber (sym em) fits), (is_k ∙ ap kind_word (sym ek), (is_n ∙ ap decimal (sym en), (is_m ∙ ap decimal (sym em), nothing ws rest))))
-
--- words that may stand in the blanks of a command, and whose kind and numbers it has, write it
-pub blanks_write : (command : Command) (ws : List (List ℕ)) → AllMayStand (blanks (first_of command)) ws → Reads (first_word (first_of command) ∷ ws) command → Writes command (first_word (first_of command) ∷ ws)
-blanks_write Flow ws h reads = record { limits = tt; fill = (refl, names ws h) }
-blanks_write Arborescences ws h reads = record { limits = tt; fill = (refl, a_name ws h) }
-blanks_write (Augment k) ws h reads = let (limits, fill) = a_k k (first_word (first.Asks verb.Augment)) ws h reads in record { limits = limits; fill = (refl, fill) }
-blanks_write (AugmentArcs k) ws h reads = let (limits, fill) = a_k k (first_word (first.Asks verb.AugmentArcs)) ws h reads in record { limits = limits; fill = (refl, fill) }
-blanks_write (Orient k) ws h reads = let (limits, fill) = a_k k (first_word (first.Asks verb.Orient)) ws h reads in record { limits = limits; fill = (refl, fill) }
-blanks_write (Trial kind nodes number) ws h reads = let (limits, fill) = the_trial kind nodes number (first_word first.Trial) ws h reads in record { limits = limits; fill = (refl, fill) }
-blanks_write command ws h reads = record { limits = tt; fill = (refl, nothing ws h) }
 
 -- words that may stand in the blanks behind a first word are those of a command
 pub some_command : (v : FirstWord) (ws : List (List ℕ)) → AllMayStand (blanks v) ws → (command : Command) × Writes command (first_word v ∷ ws)

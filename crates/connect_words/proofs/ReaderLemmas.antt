@@ -1,14 +1,11 @@
 -- What the reader finds in the words, as a command or as the first bad place.
 use Rattle.std.proofs.Common.{◌≡◌, ℕ, ◌+◌, ◌<◌, ◌≤◌, ◌⊎◌, List, [], ◌∷◌, Option, Some, length, slice_get, sym, ◌∙◌, ap, subst, arith, add-one, inl, inr}
-use Rattle.connect_words.specs.declared.command.Command.{Command}
 use Rattle.connect_words.specs.declared.blank.FirstWord.{FirstWord}
 use Rattle.connect_words.specs.declared.blank.Blank.{Blank}
-use Rattle.connect_words.specs.Commands.{Writes}
 use Rattle.connect_words.specs.Places.{IsFirstBadPlace}
-use Rattle.connect_words.specs.Blanks.{AllMayStand, Takes, blanks, first_word, first_of, Reads}
+use Rattle.connect_words.specs.Blanks.{Takes, blanks, first_word}
 use Rattle.std.proofs.lemmas.Bool.{cases_lt}
 use Rattle.connect_words.proofs.NumberLemmas.{some_injective}
-use Rattle.connect_words.proofs.CommandLemmas.{blanks_write}
 use Rattle.connect_words.proofs.PlaceLemmas.{stop_is_bad}
 
 -- the first word is this verb, and so many blanks are filled, whatever the next one is
@@ -38,9 +35,3 @@ filled_is_bad (w ∷ ws) v ss n f wrong = subst (λ u. IsFirstBadPlace (u ∷ ws
 
     next : n < length ss → (n < length (blanks v)) × (Takes (slice_get (blanks v) n) (slice_get ws n) → ⊥)
     next below = (subst (λ s. n < length s) f.blanks_are below, λ t. f.stop below (ahead w ws (slice_get ss n) n (subst (λ s. Takes (slice_get s n) (slice_get ws n)) (sym f.blanks_are) t)))
-
-write_all : (command : Command) (ws : List (List ℕ)) (ss : List Blank) (v : FirstWord) (w : List ℕ) → v ≡ first_of command → w ≡ first_word v → ss ≡ blanks v → AllMayStand ss ws → Reads (w ∷ ws) command → Writes command (w ∷ ws)
-write_all command ws ss v w verb_is word_is blanks_are suit reads =
-    let is : w ≡ first_word (first_of command) = word_is ∙ ap first_word verb_is in
-    let suits : AllMayStand (blanks (first_of command)) ws = subst (λ s. AllMayStand s ws) (blanks_are ∙ ap blanks verb_is) suit in
-    subst (λ u. Writes command (u ∷ ws)) (sym is) (blanks_write command ws suits (subst (λ u. Reads (u ∷ ws) command) is reads))

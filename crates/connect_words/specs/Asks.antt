@@ -32,10 +32,11 @@ asked graph words Dijoin = Some ask.Dijoin
 asked graph words Check = None
 asked graph words (Trial kind nodes number) = None
 
--- the ask where it suits the graph, and else the first reason for which it doesn't
+-- the ask, unless there is a misfit
 abbrev pub unless : Option Misfit → Ask → Result Ask Misfit
 unless None ask = Ok ask
 unless (Some misfit) ask = Err misfit
 
+-- the ask where it suits the graph, and else the first reason for which it doesn't
 abbrev pub ask_or_misfit : GraphValue → Ask → Result Ask Misfit
 ask_or_misfit graph ask = unless (misfit_of graph ask) ask

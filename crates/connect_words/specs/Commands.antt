@@ -3,6 +3,8 @@ use Rattle.std.specs.Prelude.{◌≡◌, ◌≢◌, ℕ, ◌-◌, ◌^◌, ◌�
 use Rattle.std.specs.Fmt.{decimal}
 use Rattle.graph_core.specs.Limits.{most_nodes}
 use Rattle.problem_defs.specs.Ask.{IsK}
+use Rattle.problem_defs.specs.Verbs.{verb_word}
+use Rattle.problem_defs.specs.declared.verb.Verb.TheVariants as verb
 use Rattle.connect_words.specs.declared.command.Command.{Command}
 use Rattle.connect_words.specs.declared.command.Command.TheVariants.{Flow, CutTree, Augment, AugmentArcs, Arborescences, Trees, Forests, Orient, Dijoin, Check, Trial}
 use Rattle.connect_words.specs.declared.command.TrialKind.{TrialKind}
@@ -10,14 +12,14 @@ use Rattle.connect_words.specs.declared.command.TrialKind.TheVariants as trial
 
 -- the word of a kind of trial
 abbrev pub kind_word : TrialKind → List ℕ
-kind_word trial.Flow = codes "flow"
-kind_word trial.Augment = codes "augment"
-kind_word trial.AugmentArcs = codes "augment-arcs"
-kind_word trial.Arborescences = codes "arborescences"
-kind_word trial.Trees = codes "trees"
-kind_word trial.Forests = codes "forests"
-kind_word trial.Orient = codes "orient"
-kind_word trial.Dijoin = codes "dijoin"
+kind_word trial.Flow = verb_word verb.Flow
+kind_word trial.Augment = verb_word verb.Augment
+kind_word trial.AugmentArcs = verb_word verb.AugmentArcs
+kind_word trial.Arborescences = verb_word verb.Arborescences
+kind_word trial.Trees = verb_word verb.Trees
+kind_word trial.Forests = verb_word verb.Forests
+kind_word trial.Orient = verb_word verb.Orient
+kind_word trial.Dijoin = verb_word verb.Dijoin
 
 -- What stands at a place of a command: this word, or the name of a node, which may be any word.
 abbrev pub Place : Type 0
@@ -31,15 +33,15 @@ name = None
 
 -- the places of a command
 abbrev pub places : Command → List Place
-places Flow = word (codes "flow") ∷ name ∷ name ∷ []
-places CutTree = word (codes "cuttree") ∷ []
-places (Augment k) = word (codes "augment") ∷ word (decimal k) ∷ []
-places (AugmentArcs k) = word (codes "augment-arcs") ∷ word (decimal k) ∷ []
-places Arborescences = word (codes "arborescences") ∷ name ∷ []
-places Trees = word (codes "trees") ∷ []
-places Forests = word (codes "forests") ∷ []
-places (Orient k) = word (codes "orient") ∷ word (decimal k) ∷ []
-places Dijoin = word (codes "dijoin") ∷ []
+places Flow = word (verb_word verb.Flow) ∷ name ∷ name ∷ []
+places CutTree = word (verb_word verb.CutTree) ∷ []
+places (Augment k) = word (verb_word verb.Augment) ∷ word (decimal k) ∷ []
+places (AugmentArcs k) = word (verb_word verb.AugmentArcs) ∷ word (decimal k) ∷ []
+places Arborescences = word (verb_word verb.Arborescences) ∷ name ∷ []
+places Trees = word (verb_word verb.Trees) ∷ []
+places Forests = word (verb_word verb.Forests) ∷ []
+places (Orient k) = word (verb_word verb.Orient) ∷ word (decimal k) ∷ []
+places Dijoin = word (verb_word verb.Dijoin) ∷ []
 places Check = word (codes "check") ∷ []
 places (Trial kind nodes number) = word (codes "trial") ∷ word (kind_word kind) ∷ word (decimal nodes) ∷ word (decimal number) ∷ []
 

@@ -48,6 +48,7 @@ impl FirstWord {
         }
     }
 
+    /// What stands behind it.
     pub fn blanks(self) -> &'static [Blank]
         ensures { result.now ≡ blanks self }
     {

@@ -121,7 +121,7 @@ fn kind_at(words: &[String], at: usize) -> TrialKind
     }
 }
 
-// The word at the place, counted from 0.
+/// The word at the place, counted from 0.
 pub fn word_at(words: &[String], at: usize) -> Option<&str>
     ensures { MatchOption result (slice_get (map string_bytes words.now) at ≡ None) (λ word. slice_get (map string_bytes words.now) at ≡ Some word.now) }
 {

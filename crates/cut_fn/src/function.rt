@@ -24,12 +24,13 @@ pub trait CutFn {
     ghost submodular: { (f : Self) → IsSubmodular (nodes f) (cut f) };
 }
 
-/// A cut function with weights of the nodes that is bounded from below at differences too, as a
-/// function is where a side and its complement have the same value.
+/// A cut function f that is posimodular with weights w of the nodes: f(X) + f(Y) is at least
+/// f(X - Y) + f(Y - X) + 2 w(X ∩ Y), too, and a law of three sides goes with it. So is, with weight 0,
+/// a function that has the same value at a side and its complement.
 pub trait Symmetric: CutFn {
     ghost weight_of: { Self → ℕ → ℕ };
 
-    /// By how much, twice, the law for differences has to spare at a node of the intersection.
+    /// The weight of a node: in a star, how many edges join it to the new node; else 0.
     fn weight(&self, v: u32) -> u64
         requires { v < Self.nodes self.now }
         ensures { result ≡ weight_of self.now v };

@@ -22,6 +22,7 @@ impl<'a> Model for EdgeCut<'a> {
 }
 
 impl<'a> EdgeCut<'a> {
+    /// d of this graph.
     pub fn new(graph: &'a Graph) -> EdgeCut<'a>
         ensures { result ≡ graph.now }
     {
@@ -73,6 +74,7 @@ impl<'a> Model for EnterCut<'a> {
 }
 
 impl<'a> EnterCut<'a> {
+    /// ρ of this graph.
     pub fn new(graph: &'a Graph) -> EnterCut<'a>
         ensures { result ≡ graph.now }
     {
@@ -112,6 +114,7 @@ impl<'a> Model for LeaveCut<'a> {
 }
 
 impl<'a> LeaveCut<'a> {
+    /// δ of this graph.
     pub fn new(graph: &'a Graph) -> LeaveCut<'a>
         ensures { result ≡ graph.now }
     {

@@ -59,7 +59,7 @@ pub fn sum_counts(side: &Side, counts: &[u64]) -> u64
     total
 }
 
-/// The edges of a star with exactly one end in a side of the graph's nodes.
+/// d of a star: how many of its edges have exactly one end in a side of the graph's nodes. The new node is in no side.
 #[derive(Debug, Drop)]
 pub struct StarCut<'a> {
     star: &'a Star,
@@ -74,6 +74,7 @@ impl<'a> Model for StarCut<'a> {
 }
 
 impl<'a> StarCut<'a> {
+    /// d of this star.
     pub fn new(star: &'a Star) -> StarCut<'a>
         ensures { result ≡ star.now }
     {
@@ -111,7 +112,7 @@ impl Symmetric for StarCut<'_> {
     ghost three_sides = { λ f. star_three (length f.graph.names) (slice_index f.count) f.graph.lines };
 }
 
-/// The arcs of a star that enter a side of the graph's nodes.
+/// ρ of a star: how many of its arcs enter a side of the graph's nodes, those from the new node too.
 #[derive(Debug, Drop)]
 pub struct StarEnter<'a> {
     star: &'a ArcStar,
@@ -126,6 +127,7 @@ impl<'a> Model for StarEnter<'a> {
 }
 
 impl<'a> StarEnter<'a> {
+    /// ρ of this star.
     pub fn new(star: &'a ArcStar) -> StarEnter<'a>
         ensures { result ≡ star.now }
     {
@@ -151,7 +153,7 @@ impl CutFn for StarEnter<'_> {
     ghost submodular = { λ f. star_enters (length f.graph.names) (slice_index f.into) f.graph.lines };
 }
 
-/// The arcs of a star that leave a side of the graph's nodes.
+/// δ of a star: how many of its arcs leave a side of the graph's nodes, those to the new node too.
 #[derive(Debug, Drop)]
 pub struct StarLeave<'a> {
     star: &'a ArcStar,
@@ -166,6 +168,7 @@ impl<'a> Model for StarLeave<'a> {
 }
 
 impl<'a> StarLeave<'a> {
+    /// δ of this star.
     pub fn new(star: &'a ArcStar) -> StarLeave<'a>
         ensures { result ≡ star.now }
     {

@@ -4,7 +4,7 @@ use Rattle.graph_core.specs.Side.{has}
 use Rattle.graph_core.specs.Lines.{degree}
 use Rattle.problem_defs.specs.CutTree.{tree_lines}
 
--- X holds u and misses v, and one of the pairs crosses it
+-- X holds u and misses v, and exactly one of the pairs crosses it
 pub record IsPairSide (n : ℕ) (pairs : List (ℕ × ℕ × ℕ)) (u v : ℕ) (X : List Bool) : Type 0 where
   pub long : length X ≡ n
   pub holds : has X u ≡ true

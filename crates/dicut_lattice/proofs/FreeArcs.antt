@@ -1,8 +1,7 @@
 -- Arcs that aren't fixed, and dijoins made of them.
-use Rattle.std.specs.Prelude.{ℕ, ◌≡◌, ◌≤◌, ◌↔◌, Bool, true, false, not, ◌&&◌, List, filter, count_by, IsTrue, MatchOption, Option, Some, None, All}
+use Rattle.std.specs.Prelude.{ℕ, ◌≡◌, ◌↔◌, Bool, true, false, not, ◌&&◌, List, filter, IsTrue, MatchOption, Option, Some, None, All}
 use Rattle.std.specs.Option.{is_some}
-use Rattle.std.proofs.Common.{sym, ap, ◌∙◌, arith, inl, inr}
-use Rattle.std.proofs.lemmas.Bool.{cases_eq}
+use Rattle.std.proofs.Common.{sym, ap, ◌∙◌, arith}
 use Rattle.std.proofs.lemmas.List.Elements.{All-weaker}
 use Rattle.graph_core.specs.Graph.{GraphValue}
 use Rattle.graph_core.specs.Lines.{enters, entering}
@@ -10,7 +9,7 @@ use Rattle.graph_core.specs.Picked.{picked, ArePicks}
 use Rattle.graph_core.specs.declared.graph.Line.{Line}
 use Rattle.graph_core.proofs.Counting.{weight, none-pass, sum_by-agree, sum_by-zero}
 use Rattle.graph_core.proofs.SizeLaws.{count-filter}
-use Rattle.problem_defs.specs.Dijoin.{IsClosed, IsFeasible, Forbids}
+use Rattle.problem_defs.specs.Dijoin.{IsFeasible, Forbids}
 use Rattle.dicut_lattice.specs.Uncovered.{NoneForbids, IsUncovered, AreCovered}
 
 abbrev free : Line → Bool
@@ -41,14 +40,6 @@ module _ (g : GraphValue) where
   pub blocked-found : (found : Option (List Bool)) → MatchOption found (AreCovered g (filter free g.lines)) (IsUncovered g (filter free g.lines)) → MatchOption found (NoneForbids g) (Forbids g)
   blocked-found None all = λ U f. let c = all U f.closed in absurd (omega (arith, uncovered-forbids U f))
   blocked-found (Some U) un = forbids-uncovered U un
-
-  -- where no closed side forbids, an arc that isn't fixed enters each
-  pub free_covers : NoneForbids g → (U : List Bool) → IsClosed g U → 1 ≤ count_by (λ l. not l.fixed && enters U l) g.lines
-  free_covers none U closed =
-      elim (cases_eq (entering U (filter free g.lines)) 0) [
-        | inl zero ↦ absurd (none U (forbids-uncovered U (record { closed = closed; none = zero })))
-        | inr some ↦ omega (arith, count-filter (enters U) free g.lines)
-      ]
 
   -- it is told whether one of the arcs enters each closed side, by what was found
   pub covered-found : (arcs : List Line) (found : Option (List Bool)) (all : Bool) → MatchOption found (AreCovered g arcs) (IsUncovered g arcs) → is_some found ≡ not all → IsTrue all ↔ AreCovered g arcs

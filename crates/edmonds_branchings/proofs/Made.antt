@@ -1,24 +1,18 @@
 -- The end of a round: all nodes are covered.
-use Rattle.std.specs.Prelude.{ℕ, zero, suc, ◌≡◌, ◌+◌, ◌-◌, ◌<◌, ◌≤◌, ◌==◌, Bool, true, List, length, All}
+use Rattle.std.specs.Prelude.{ℕ, zero, suc, ◌≡◌, ◌+◌, ◌-◌, ◌<◌, ◌≤◌, ◌==◌, Bool, true, List, length}
 use Rattle.std.proofs.Common.{sym, ap, ◌∙◌, inl, inr, arith}
 use Rattle.std.proofs.lemmas.Bool.{cases_lt, ne_eqb}
-use Rattle.std.proofs.lemmas.List.Elements.{All-weaker}
 use Rattle.graph_core.specs.Side.{has, size}
-use Rattle.graph_core.specs.Picked.{picked, occurrences, IsDistinct}
+use Rattle.graph_core.specs.Picked.{picked, IsDistinct}
 use Rattle.graph_core.specs.Trees.{in_degree}
-use Rattle.graph_core.proofs.Counting.{weight, sum_by-agree, sum_by-zero}
+use Rattle.graph_core.proofs.Counting.{weight}
 use Rattle.graph_core.specs.declared.graph.Line.{Line}
 use Rattle.flow_cuts.specs.declared.network.Cap.{Cap}
 use Rattle.edmonds_branchings.specs.Network.{cap_at}
 use Rattle.edmonds_branchings.specs.Round.{IsRound}
 use Rattle.edmonds_branchings.specs.Row.{IsRow, IsMade}
+use Rattle.graph_core.proofs.ForestRows.{none_past}
 use Rattle.graph_core.proofs.PutLaws.{all_there}
-
--- numbers below m are no larger number
-pub none_past : (m j : ℕ) (row : List ℕ) → All (λ i. i < m) row → m ≤ j → occurrences j row ≡ 0
-none_past m j row h past =
-    sum_by-agree (λ i. weight (i == j)) (λ _. 0) row (All-weaker (λ i. i < m) (λ i. weight (i == j) ≡ 0) (λ i l. ap weight (ne_eqb i j (λ e. absurd (omega arith)))) row h)
-    ∙ sum_by-zero row
 
 root_or_head : (d a b : ℕ) → d ≤ 1 → a + 1 ≤ b + d → a + weight (d == 0) ≤ b
 root_or_head zero a b one h = omega arith

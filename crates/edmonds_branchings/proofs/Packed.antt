@@ -14,7 +14,7 @@ use Rattle.edmonds_branchings.specs.Network.{network_of, cap_at, IsLeft}
 use Rattle.edmonds_branchings.specs.Rooted.{beginning_at, CanBePacked, ArePacked}
 use Rattle.edmonds_branchings.specs.Round.{HasCapacity}
 use Rattle.edmonds_branchings.specs.Row.{IsMade}
-use Rattle.edmonds_branchings.proofs.Made.{none_past}
+use Rattle.graph_core.proofs.ForestRows.{none_past}
 use Rattle.edmonds_branchings.proofs.Start.{left_start, unit_at, root_at, capacity_start}
 use Rattle.edmonds_branchings.proofs.Taken.{some_line}
 

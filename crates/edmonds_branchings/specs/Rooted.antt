@@ -11,7 +11,7 @@ use Rattle.graph_core.specs.declared.graph.Line.{Line}
 abbrev pub beginning_at : ℕ → List Line → List (List ℕ) → ℕ
 beginning_at v ls rows = count_by (λ row. in_degree v (picked ls row) == 0) rows
 
--- Edmonds' condition: each nonempty X is entered by at least as many arcs as branchings don't begin in it
+-- Edmonds' condition: at least k - roots(X) arcs enter each nonempty X, one for each branching that can't begin in it
 pub record CanBePacked (n k : ℕ) (ls : List Line) (roots : List ℕ) : Type 0 where
   pub long : length roots ≡ n
   pub entered : (X : List Bool) → IsNonempty n X → k ≤ entering X ls + sum_over X (slice_index roots)

@@ -19,6 +19,7 @@ AreApart X T = (v : ℕ) → has X v ≡ true → has T v ≡ false
 abbrev pub HasCapacity : ℕ → ℕ → List Cap → Type 0
 HasCapacity n k arcs = (X : List Bool) → IsRootless n X → k ≤ capacity X arcs
 
+-- T is covered, the last node too: each side without that node has a capacity of at least k - 1, and of at least k where it holds no node of T
 pub record IsRound (n k : ℕ) (arcs : List Cap) (T : List Bool) : Type 0 where
   pub long : length T ≡ n + 1
   pub last : has T n ≡ true
@@ -38,6 +39,7 @@ pub record IsBlocked (n k : ℕ) (arcs : List Cap) (j : ℕ) : Type 0 where
   pub head : has side (cap_at arcs j).head ≡ false
   pub critical : capacity side arcs < k
 
+-- each arc that is refused leaves a critical side
 abbrev pub AreRefused : ℕ → ℕ → List Cap → List Bool → Type 0
 AreRefused n k arcs refused = (j : ℕ) → has refused j ≡ true → IsBlocked n k arcs j
 

@@ -21,7 +21,7 @@ pub fn network(alloc: Global, graph: &Graph, roots: &Counts) -> Result<Vec<Cap>,
     add_new_node(alloc, &arcs, roots.as_slice())
 }
 
-/// Whether each side that arc `j` leaves has a capacity of at least `k`.
+/// Whether each side without the last node that arc `j` leaves has a capacity of at least `k`.
 pub fn may_take(alloc: Global, n: usize, arcs: &[Cap], j: usize, k: u32) -> Result<bool, NoMemory>
     requires nodes { n ≤ node_room }
     requires few { length arcs.now ≤ 262144 }

@@ -1,6 +1,5 @@
 ghost use Rattle.std.specs.Prelude.{◌≡◌, ◌<◌, ◌^◌, length, All, IfOk};
 ghost use Rattle.graph_core.specs.Graph.{IsWithinSize};
-ghost use Rattle.graph_core.specs.declared.graph.Kind.TheVariants.{Directed};
 ghost use Rattle.edmonds_branchings.specs.Rooted.{CanBePacked, ArePacked};
 
 use crate::network::network;
@@ -16,7 +15,6 @@ pub fn pack_rooted(
     roots: &Counts,
     k: u32,
 ) -> Result<NumberRows, NoMemory>
-    requires kind { graph.now.kind ≡ Directed }
     requires size { IsWithinSize graph.now }
     requires small { All (λ count. count < 2 ^ 32) roots.now }
     requires ready { CanBePacked (length graph.now.names) k graph.now.lines roots.now }

@@ -110,7 +110,7 @@ fn take_step(
     Ok(())
 }
 
-/// Makes a branching of arcs that are left, and takes them.
+/// Makes a branching of arcs that are left, and takes them, where `k` branchings are to be made of what is left.
 pub fn make_branching(
     alloc: Global,
     graph: &Graph,

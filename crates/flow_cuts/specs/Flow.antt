@@ -18,6 +18,7 @@ pub record Run : Type 0 where
   pub stop : ℕ
   pub answer : ℕ
 
+-- how many nodes, the arcs, the graph where they were made of one, and the last run where there was one
 pub record FlowValue : Type 0 where
   pub nodes : ℕ
   pub arcs : List Cap

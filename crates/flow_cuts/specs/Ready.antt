@@ -6,6 +6,7 @@ use Rattle.flow_cuts.specs.declared.residual.Residual.{Residual}
 use Rattle.flow_cuts.specs.Residual.{SameEnds, SameSums, IsFlow}
 use Rattle.flow_cuts.specs.Cuts.{IsSmallestCut, IsLargestCut}
 
+-- the links are those of the whole network with other rooms, and the rest is as long as it has to be
 pub record IsReady (n : ℕ) (whole : List Link) (r : Residual) : Type 0 where
   pub ends : SameEnds whole r.links.items
   pub sums : SameSums whole r.links.items

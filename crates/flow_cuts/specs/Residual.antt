@@ -1,4 +1,4 @@
--- Residual networks: links, what may still go along them, and what a push changes.
+-- Residual networks: links, what may still go along them, and what a push changes. No public clause cites it.
 use Rattle.std.specs.Prelude.{◌≡◌, ℕ, ◌+◌, ◌-◌, ◌^◌, ◌<◌, List, length, slice_index_or, slice_set, Bool, sum_by}
 use Rattle.graph_core.specs.Side.{has}
 use Rattle.graph_core.specs.declared.graph.Kind.{Kind}

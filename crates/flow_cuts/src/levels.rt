@@ -147,8 +147,8 @@ fn drain_all(
     sent
 }
 
-/// Sends as much as can go from the inside to the outside, but no more than `stop`. Where it sends less, the tree has in the end
-/// all that can still be reached from the inside.
+/// Sends as much as can go from the inside to the outside, but no more than `stop`, along ways of fewest steps (Dinitz). Where it
+/// sends less, the tree has in the end all that can still be reached from the inside.
 pub fn send_by_levels(
     course: &Course,
     stop: u64,

@@ -4,7 +4,7 @@ ghost use Rattle.flow_cuts.specs.Streams.{one_less, taken};
 
 use graph_core::{Kind, Line};
 
-/// An arc with its capacity.
+/// An arc between two nodes, by their numbers, with its capacity: how many units it lets through.
 #[derive(Clone, Copy)]
 pub struct Cap {
     pub tail: u32,
@@ -67,6 +67,7 @@ impl Link {
         }
     }
 
+    /// The node from which one comes.
     pub fn from(&self, way: Way) -> u32
         ensures { result ≡ from_of self.now way }
     {
@@ -76,6 +77,7 @@ impl Link {
         }
     }
 
+    /// The node to which one goes.
     pub fn to(&self, way: Way) -> u32
         ensures { result ≡ to_of self.now way }
     {
@@ -85,6 +87,7 @@ impl Link {
         }
     }
 
+    /// How much may still go.
     pub fn room(&self, way: Way) -> u32
         ensures { result ≡ room_of self.now way }
     {

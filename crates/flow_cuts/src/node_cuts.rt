@@ -21,6 +21,7 @@ pub struct NodeCuts<'a> {
 }
 
 impl<'a> NodeCuts<'a> {
+    /// Makes the network of the graph. The other calls take no memory.
     pub fn new(alloc: Global, graph: &'a Graph) -> Result<NodeCuts<'a>, NoMemory>
         requires { graph.now.kind ≡ Undirected }
         ensures { IfOk result (λ cuts. cuts.graph.now ≡ graph.now) }

@@ -38,14 +38,13 @@ fn is_parted(
     }
 }
 
-/// A proper side that less than `least` leaves, by flows from node 0 to each other node and back.
+/// A proper side that less than `least` leaves, or none where there is none, by flows from node 0 to each other node and back.
 pub fn sparse_side(
     alloc: Global,
     n: usize,
     arcs: &[Cap],
     least: u64,
 ) -> Result<Option<Side>, NoMemory>
-    requires some { 1 ≤ n }
     requires nodes { n ≤ side_room }
     requires few { length arcs.now ≤ 16777216 }
     requires ends { All (λ a. (a.tail < n) × (a.head < n)) arcs.now }

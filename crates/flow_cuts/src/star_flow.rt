@@ -13,7 +13,8 @@ use graph_core::{NoMemory, Side};
 use std::alloc::Global;
 
 /// Flows in the network of a star: arcs among nodes, and an arc from each node to a new one, with the node's count for its
-/// capacity. The new node has the number of the nodes.
+/// capacity. Of n nodes the new one is node n. The value of a side of the n nodes is the capacity that leaves it, over the arcs
+/// and to the new node.
 #[derive(Drop)]
 pub struct StarFlow<'a> {
     pub arcs: &'a [Cap],
@@ -41,6 +42,7 @@ fn copy_nodes(into: &mut Side, from: &Side, n: u32)
 }
 
 impl<'a> StarFlow<'a> {
+    /// Makes the network. The other calls take no memory.
     pub fn new(alloc: Global, arcs: &'a [Cap], counts: &'a [u64]) -> Result<StarFlow<'a>, NoMemory>
         requires nodes { length counts.now ≤ 8191 }
         requires arcs { AreArcs (length counts.now) arcs.now }
@@ -81,7 +83,7 @@ impl<'a> StarFlow<'a> {
     }
 
     /// The smaller of `stop` and the least value of a side that holds one side and misses a node, which may be the new one.
-    /// Below `stop`, `into` becomes the smallest such side.
+    /// Below `stop`, `into` becomes the smallest side with this value, which lies within each other one.
     pub fn least(&mut self, held: &Side, missed: u32, stop: u64, into: &mut Side) -> u64
         requires held { length held.now ≡ length self.old.counts.now }
         requires missed { missed ≤ length self.old.counts.now }

@@ -61,7 +61,7 @@ pub fn take_walk(
     Ok(Numbers::from_vec(walk))
 }
 
-/// Splits what is sent into walks from the inside to the outside.
+/// Splits what is sent into walks from the inside to the outside, by one search for each walk.
 pub fn split_walks(
     alloc: Global,
     course: &Course,

@@ -8,7 +8,7 @@ use Rattle.graph_core.specs.Picked.{occurrences, picked}
 use Rattle.graph_core.specs.Trees.{IsAcyclic, IsForest}
 use Rattle.graph_core.specs.Sets.{set_of}
 use Rattle.graph_core.specs.declared.graph.Line.{Line}
-use Rattle.graph_core.proofs.Counting.{All-slice_get, passes, sum_by-agree, sum_by-add, sum_by-zero, weight, weighed, count_by-picked, count_by-picks}
+use Rattle.graph_core.proofs.Counting.{All-slice_get, passes, sum_by-agree, sum_by-add, sum_by-zero, weight, weight-or, weighed, count_by-picked, count_by-picks}
 use Rattle.std.specs.List.{range_with_len}
 use Rattle.std.proofs.Math.Seq.{take-suc}
 use Rattle.std.proofs.lemmas.Bool.{cases_lt, eq-eqb, ne_eqb, and_from}
@@ -95,9 +95,6 @@ none_past m j row h past =
     sum_by-agree (λ i. weight (i == j)) (λ _. 0) row (All-weaker (λ i. i < m) (λ i. weight (i == j) ≡ 0) (λ i l. ap weight (ne_eqb i j (λ e. absurd (omega arith)))) row h)
     ∙ sum_by-zero row
 
-either_weight : (a b : Bool) → weight (a || b) ≤ weight a + weight b
-either_weight a b = grind arith
-
 -- the two ends of a line
 size_ends : (n t h : ℕ) → size (set_of n (λ v. (v == t) || (v == h))) ≤ 2
 size_ends n t h =
@@ -106,7 +103,7 @@ size_ends n t h =
     omega (
       arith,
       count-map (λ v. (v == t) || (v == h)) (range_with_len 0 n),
-      sum_by-le-sum_by (λ v. weight ((v == t) || (v == h))) (λ v. weight (v == t) + weight (v == h)) (range_with_len 0 n) (λ v. either_weight (v == t) (v == h)),
+      sum_by-le-sum_by (λ v. weight ((v == t) || (v == h))) (λ v. weight (v == t) + weight (v == h)) (range_with_len 0 n) (λ v. weight-or (v == t) (v == h)),
       sum_by-add (λ v. weight (v == t)) (λ v. weight (v == h)) (range_with_len 0 n),
       one t,
       one h,

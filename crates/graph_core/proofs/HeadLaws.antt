@@ -2,12 +2,11 @@
 use Rattle.std.specs.Prelude.{ℕ, zero, suc, ◌≡◌, ◌+◌, ◌≤◌, ◌==◌, ◌&&◌, not, Bool, true, false, cond, List, [], ◌∷◌, count_by, refl}
 use Rattle.std.proofs.Common.{sym, ap, ◌∙◌, arith}
 use Rattle.std.proofs.lemmas.Bool.{ne_eqb}
-use Rattle.std.proofs.lemmas.Bool.Decides.{nat_tests}
 use Rattle.std.proofs.lemmas.List.Sums.{sum_by-cons}
 use Rattle.graph_core.specs.Side.{has, size, sum_over}
 use Rattle.graph_core.specs.Lines.{within, enters, entering, induced}
 use Rattle.graph_core.specs.Trees.{in_degree}
-use Rattle.graph_core.proofs.Counting.{weight, count_weights}
+use Rattle.graph_core.proofs.Counting.{weight, count_weights, eqb-suc}
 use Rattle.graph_core.proofs.NodeLaws.{nodes_none}
 use Rattle.graph_core.specs.declared.graph.Line.{Line}
 
@@ -28,16 +27,13 @@ node-le-sum f [] v h = absurd (cc (h))
 node-le-sum f (x ∷ X) zero h = rw h (omega arith)
 node-le-sum f (x ∷ X) (suc v) h = omega (arith, node-le-sum (λ u. f (suc u)) X v h)
 
-suc_test : (h v : ℕ) → (suc h == suc v) ≡ (h == v)
-suc_test h v = grind (arith, nat_tests)
-
 pub one_node : (h : ℕ) (X : List Bool) → sum_over X (λ v. weight (h == v)) ≡ weight (has X h)
 one_node h [] = refl
 one_node zero (x ∷ X) =
     let none : sum_over X (λ v. weight (0 == suc v)) ≡ 0 = (λ i. sum_over X (λ v. weight (ne_eqb 0 (suc v) (λ e. absurd (omega arith)) i))) ∙ nodes_none X in
     elim x as (λ b. cond b 1 0 + sum_over X (λ v. weight (0 == suc v)) ≡ weight b) [ true ↦ omega (arith, none) | false ↦ omega (arith, none) ]
 one_node (suc h) (x ∷ X) =
-    let rest : sum_over X (λ v. weight (suc h == suc v)) ≡ weight (has X h) = (λ i. sum_over X (λ v. weight (suc_test h v i))) ∙ one_node h X in
+    let rest : sum_over X (λ v. weight (suc h == suc v)) ≡ weight (has X h) = (λ i. sum_over X (λ v. weight (eqb-suc h v i))) ∙ one_node h X in
     let first : weight (suc h == 0) ≡ 0 = ap weight (ne_eqb (suc h) 0 (λ e. absurd (omega arith))) in
     elim x as (λ b. cond b (weight (suc h == 0)) 0 + sum_over X (λ v. weight (suc h == suc v)) ≡ weight (has X h)) [ true ↦ omega (arith, first, rest) | false ↦ omega (arith, rest) ]
 

@@ -4,7 +4,7 @@ use Rattle.std.proofs.Common.{ap, arith}
 use Rattle.std.proofs.lemmas.List.{get_or-set_same, get_or-set_other}
 use Rattle.std.proofs.lemmas.List.Sums.{sum_by-cons}
 use Rattle.graph_core.specs.Side.{has, size, meet, minus, complement, sum_over}
-use Rattle.graph_core.proofs.Counting.{weight}
+use Rattle.graph_core.proofs.Counting.{weight, weight_within}
 use Rattle.graph_core.proofs.SizeLaws.{count-cons}
 use Rattle.graph_core.proofs.WeightLaws.{nodes_changed, nodes_complement, nodes_all}
 
@@ -46,10 +46,6 @@ nodes_lowered counts X v c l le =
     let here : w' v ≡ old - c = get_or-set_same counts v (old - c) 0 l in
     let change = nodes_changed (slice_index counts) w' v (λ u ne. get_or-set_other counts v u (old - c) 0 ne) X in
     omega (arith, change, lower_once (has X v) old (w' v) c (omega arith))
-
-weight_within : (a b : Bool) → (a ≡ true → b ≡ true) → weight a ≤ weight b
-weight_within true b h = rw (h refl) (omega arith)
-weight_within false b h = omega arith
 
 size_within : (M N : List Bool) → length M ≡ length N → ((v : ℕ) → has M v ≡ true → has N v ≡ true) → size M ≤ size N
 size_within [] [] e h = omega arith

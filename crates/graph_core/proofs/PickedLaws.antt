@@ -6,8 +6,7 @@ use Rattle.std.proofs.lemmas.List.{take_more}
 use Rattle.std.proofs.lemmas.List.Elements.{filter_map-append}
 use Rattle.graph_core.specs.Picked.{picked, IsDistinct}
 use Rattle.graph_core.specs.declared.graph.Line.{Line}
-use Rattle.graph_core.proofs.Counting.{count_by-picked, passes-le}
-use Rattle.graph_core.proofs.TestSides.{count-all}
+use Rattle.graph_core.proofs.Counting.{count-all, count_by-picked, passes-le}
 
 -- one line more
 pub picked-more : (ls : List Line) (js : List ℕ) (i : ℕ) (l : Line) → i < length js → slice_get ls (get_or js i 0) ≡ Some l → picked ls (take (i + 1) js) ≡ picked ls (take i js) ++ l ∷ []

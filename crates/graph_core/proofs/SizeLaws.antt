@@ -3,7 +3,7 @@ use Rattle.std.proofs.Common.{ℕ, zero, suc, ◌≡◌, ◌+◌, ◌<◌, ◌�
 use Rattle.std.specs.List.{filter, range_with_len, sum_by}
 use Rattle.std.proofs.lemmas.Bool.{cases_eq}
 use Rattle.std.proofs.lemmas.List.Sums.{sum_by-cons}
-use Rattle.graph_core.proofs.Counting.{weight}
+use Rattle.graph_core.proofs.Counting.{weight, weight_within}
 use Rattle.graph_core.specs.Side.{has, size}
 
 pub weight_true : (b : Bool) → b ≡ true → weight b ≡ 1
@@ -42,10 +42,6 @@ module _ {X : Type 0} where
         | false ↦ count-filter p f xs ∙ sym (zero-add (count_by (λ y. f y && p y) xs))
       ])
 
-  pub sum-le : (f g : X → ℕ) → ((x : X) → f x ≤ g x) → (xs : List X) → sum_by f xs ≤ sum_by g xs
-  sum-le f g h [] = omega arith
-  sum-le f g h (x ∷ xs) = omega (arith, sum_by-cons f x xs, sum_by-cons g x xs, h x, sum-le f g h xs)
-
 -- a sum with terms at one place only, of at most one
 pub sum_one : (f : ℕ → ℕ) (c a n : ℕ) → ((r : ℕ) → f r ≤ 1) → ((r : ℕ) → (r ≡ c → ⊥) → f r ≡ 0) → sum_by f (range_with_len a n) ≤ 1
 sum_one f c a zero most other = omega arith
@@ -64,14 +60,9 @@ abbrev pub count_below : ℕ → (ℕ → Bool) → ℕ
 count_below zero p = 0
 count_below (suc n) p = weight (p n) + count_below n p
 
-weight_less : (a b : Bool) → (a ≡ true → b ≡ true) → weight a ≤ weight b
-weight_less true true h = omega arith
-weight_less true false h = absurd (cc (h refl))
-weight_less false b h = omega arith
-
 count_no_more : (n : ℕ) (p q : ℕ → Bool) → ((v : ℕ) → q v ≡ true → p v ≡ true) → count_below n q ≤ count_below n p
 count_no_more zero p q h = omega arith
-count_no_more (suc n) p q h = omega (arith, weight_less (q n) (p n) (h n), count_no_more n p q h)
+count_no_more (suc n) p q h = omega (arith, weight_within (q n) (p n) (h n), count_no_more n p q h)
 
 -- where one no longer passes, and no other begins to, they are fewer
 pub count_fewer : (n : ℕ) (p q : ℕ → Bool) → ((v : ℕ) → q v ≡ true → p v ≡ true) → (v : ℕ) → v < n → p v ≡ true → q v ≡ false → count_below n q < count_below n p
@@ -79,7 +70,7 @@ count_fewer zero p q h v l pass fail = absurd (omega arith)
 count_fewer (suc n) p q h v l pass fail =
     elim (cases_eq v n) [
       | inl e ↦ (let now : weight (p n) ≡ 1 = ap (λ i. weight (p i)) (sym e) ∙ ap weight pass in let then' : weight (q n) ≡ 0 = ap (λ i. weight (q i)) (sym e) ∙ ap weight fail in omega (arith, count_no_more n p q h))
-      | inr ne ↦ omega (arith, weight_less (q n) (p n) (h n), count_fewer n p q h v (omega arith) pass fail)
+      | inr ne ↦ omega (arith, weight_within (q n) (p n) (h n), count_fewer n p q h v (omega arith) pass fail)
     ]
 
 -- sizes of sides that make up one another

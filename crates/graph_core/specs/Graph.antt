@@ -19,7 +19,7 @@ pub record Fits (n : ℕ) (l : Line) : Type 0 where
   pub head : l.head < n
   pub apart : l.tail ≢ l.head
 
--- a cost within its limit, which is 1 where the line is an edge or a fixed arc
+-- a cost within its limit: edges and fixed arcs cost 1
 pub record IsPriced (kind : Kind) (l : Line) : Type 0 where
   pub most : l.cost ≤ most_cost
   pub edge : kind ≡ Undirected → l.cost ≡ 1

@@ -1,5 +1,6 @@
 -- The limits of a graph.
 use Rattle.std.specs.Prelude.{ℕ}
+use Rattle.word_sides.specs.Limits.{most_values}
 
 -- the most bytes of a name
 abbrev pub most_bytes : ℕ
@@ -39,4 +40,4 @@ most_k = 32
 
 -- the most truth values of a side
 abbrev pub side_room : ℕ
-side_room = 8192
+side_room = most_values

@@ -134,7 +134,7 @@ impl Draft {
         Ok(())
     }
 
-    // What an edge costs is 1.
+    // Does nothing, and gives that edges cost together as much as there are of them, since each costs 1.
     fn know_edges(&self)
         ensures { self.now.kind ≡ Some Undirected → cost_of self.now.ends ≡ length self.now.ends }
     {

@@ -20,6 +20,7 @@ pub enum Item<'a> {
     Other,
 }
 
+/// What the line says, with or without its LF.
 pub(crate) fn item_of_line(line: &[u8]) -> Item<'_>
     ensures { said result ≡ line_says line.now }
 {

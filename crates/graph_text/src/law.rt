@@ -4,7 +4,7 @@ ghost use Rattle.graph_text.specs.declared.refusal.Why.{Why};
 ghost use Rattle.graph_text.specs.Reading.{ReadsText, IsFault, IsTextAlone, IsFaultAlone};
 ghost use Rattle.graph_text.specs.PlainText.{plain_text, HasFewCosts};
 
-/// Bytes have one reading: one graph and one count, or one first fault, and not both.
+/// Bytes have at most one reading: one graph and one count, or one first fault, and not both.
 pub fn one_reading()
     ensures one_text { (bytes : List ℕ) (g h : GraphValue) (c d : ℕ) → ReadsText bytes g c → ReadsText bytes h d → (g ≡ h) × (c ≡ d) }
     ensures one_fault { (bytes : List ℕ) (i j : ℕ) (why other : Why) → IsFault bytes i why → IsFault bytes j other → (i ≡ j) × (why ≡ other) }

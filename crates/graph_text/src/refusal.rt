@@ -5,6 +5,7 @@ use thiserror::Error;
 pub enum Why {
     #[error("the text does not begin with `graph undirected` or `graph directed`")]
     NoHeader,
+    /// Also a second header, and any line behind the end of a text that has to stand alone.
     #[error("the line is no node, edge, arc or end")]
     BadLine,
     #[error("a name has to be 1 to 32 letters, digits, `_`, `.` or `-`")]

@@ -8,7 +8,8 @@ use graph_core::{Graph, Kind, Line, NoMemory};
 use itoa::Buffer;
 use std::alloc::Global;
 
-/// The plain text of a graph whose arcs cost at most 4,000 together, since no other would be read back.
+/// The plain text of a graph. Its arcs cost at most 4,000 together, since a text with more isn't read back. A graph of more
+/// than 128 nodes or 2,048 lines is written too, but isn't read back either.
 pub fn write_graph(alloc: Global, graph: &Graph) -> Result<Vec<u8>, NoMemory>
     requires { HasFewCosts graph.now }
     ensures { IfOk result (λ text. text.items ≡ plain_text graph.now) }

@@ -18,7 +18,7 @@ use Rattle.graph_core.specs.Labels.{class, splits}
 use Rattle.graphic_matroid.specs.Unfit.{unfit}
 use Rattle.graphic_matroid.specs.Roots.{AreClasses, IsRootOf}
 use Rattle.graphic_matroid.specs.Components.{AreComponents, classes_of}
-use Rattle.graph_core.proofs.SizeLaws.{weight_true, weight_false, weight_most, count-cons, count-filter, count-le_three, sum_one}
+use Rattle.graph_core.proofs.SizeLaws.{weight_true, weight_false, weight_most, count-filter, count-le_three, sum_one}
 use Rattle.graph_core.proofs.SideLaws.{nonempty-has}
 use Rattle.graph_core.proofs.LabelLaws.{in_class, to_class, split_not}
 use Rattle.graphic_matroid.specs.ForestLaws.{fit_ends}

@@ -1,5 +1,5 @@
 -- What the reached lines say of disjoint forests.
-use Rattle.std.proofs.Common.{ℕ, zero, suc, ◌≡◌, ◌+◌, ◌*◌, ◌<◌, ◌≤◌, Bool, true, false, eqb, not, ◌&&◌, ◌⊎◌, inl, inr, List, [], ◌∷◌, length, get_or, set, count_by, sym, refl, ap, ◌∙◌, arith, ⊎_elim, subst}
+use Rattle.std.proofs.Common.{ℕ, zero, suc, ◌≡◌, ◌+◌, ◌*◌, ◌<◌, ◌≤◌, Bool, true, false, eqb, ◌&&◌, ◌⊎◌, inl, inr, List, [], ◌∷◌, length, get_or, set, count_by, sym, refl, ap, ◌∙◌, arith, ⊎_elim, subst}
 use Rattle.std.specs.Prelude.{All}
 use Rattle.std.proofs.lemmas.Bool.{cases_eq, cases_Bool, both_ways, eqb-true, eq-eqb, ne_eqb, and_parts, and_from, false_from_ne_true, true_from_ne_false, or_cases}
 use Rattle.std.proofs.lemmas.List.{get_or-set_same, get_or-set_other, get_or_default}
@@ -11,6 +11,7 @@ use Rattle.graph_core.specs.Families.{IsPartition}
 use Rattle.graph_core.specs.Trees.{IsAcyclic}
 use Rattle.graph_core.specs.declared.graph.Line.{Line}
 use Rattle.graph_core.proofs.Counting.{weight}
+use Rattle.graph_core.proofs.CutLaws.{differ_same}
 use Rattle.graph_core.proofs.FamilyLaws.{parted-or-within}
 use Rattle.matroid_union.specs.Sets.{plus}
 use Rattle.graph_core.specs.Sets.{set_of}
@@ -43,10 +44,6 @@ find_below f (suc k) =
     (λ g. inr (λ p l. ⊎_elim (λ e. ap f e ∙ g) (λ ne. none p (omega arith)) (cases_eq p k)))
     (cases_Bool (f k)))
     (find_below f k)
-
-differ_same : (a b : Bool) → a ≡ b → differ a b ≡ false
-differ_same true b e = ap not (sym e)
-differ_same false b e = sym e
 
 -- a side has as many of the two ends as say whether the line crosses it or lies within
 crosses_and_within : (a b : Bool) → weight (differ a b) + 2 * weight (a && b) ≡ weight a + weight b

@@ -2,7 +2,7 @@
 use Rattle.std.proofs.Common.{ℕ, ◌≡◌, ◌+◌, ◌<◌, ◌≤◌, Bool, true, false, cond, eqb, ltb, ◌&&◌, List, [], ◌∷◌, length, get_or, set, take, replicate, count_by, sym, refl, ap, ◌∙◌, arith, ⊎_elim, subst, zero-add, add-one}
 use Rattle.std.specs.List.{range_with_len, sum_by}
 use Rattle.std.proofs.lemmas.Bool.{cases_Bool, and_parts, and_from, and_left, not-false, ltb-true, false_from_ne_true, cases_eq}
-use Rattle.std.proofs.lemmas.List.Sums.{get_or-le-sum_by}
+use Rattle.std.proofs.lemmas.List.Sums.{get_or-le-sum_by, sum_by-le-sum_by}
 use Rattle.std.proofs.lemmas.List.FromFn.{length-range_with_len, get_or-range_with_len}
 use Rattle.graph_core.proofs.FamilyLaws.{size-nonempty}
 use Rattle.graph_core.specs.Side.{has, size}
@@ -17,9 +17,9 @@ use Rattle.graphic_matroid.specs.ChosenLaws.{chosen-le, chosen-all, chosen-none,
 use Rattle.graph_core.proofs.LabelLaws.{in_class, to_class, split_not, split_is, forest_more}
 use Rattle.graph_core.proofs.LabelLaws.{labels_none}
 use Rattle.graph_core.proofs.JoinLaws.{labels_more, joined_at, joined_off}
-use Rattle.graph_core.proofs.Counting.{weight, sum_by-add, sum_by-swap}
+use Rattle.graph_core.proofs.Counting.{weight, zero_weight, sum_by-add, sum_by-swap}
 use Rattle.graph_core.proofs.SetLaws.{length_of}
-use Rattle.graph_core.proofs.SizeLaws.{weight_true, weight_false, weight_most, count-cons, count-none, sum-le, sum_one, some_or_none}
+use Rattle.graph_core.proofs.SizeLaws.{weight_true, weight_false, weight_most, count-cons, count-none, sum_one, some_or_none}
 use Rattle.graph_core.proofs.SideLaws.{nonempty-has}
 use Rattle.graph_core.specs.Graph.{no_line}
 
@@ -28,10 +28,6 @@ pub fit_ends : (n : ℕ) (l : Line) → unfit n l ≡ false → (l.tail < n) × 
 fit_ends n l h =
     let both = and_parts (ltb l.tail n) (ltb l.head n) (not-false (ltb l.tail n && ltb l.head n) h) in
     (ltb-true l.tail n both.0, ltb-true l.head n both.1)
-
-zero_weight : (b : Bool) → weight b ≡ 0 → b ≡ false
-zero_weight false e = refl
-zero_weight true e = absurd (omega arith)
 
 pub finest_none : Finest (λ v. v) []
 finest_none = record { coarser = λ f _ u v e. ap f e }
@@ -109,12 +105,12 @@ module _ (n : ℕ) (lab : ℕ → ℕ) where
       (cases_Bool (splits lab l))
 
   inner_most : (ls : List Line) → inner ls ≤ count_by (λ _. true) ls
-  inner_most ls = let a = inner_times ls in let b = sum-le times (λ _. 1) times_most ls in omega arith
+  inner_most ls = let a = inner_times ls in let b = sum_by-le-sum_by times (λ _. 1) ls times_most in omega arith
 
   pub inner_some : ((v : ℕ) → v < n → lab v < n) → (ls : List Line) → count_by (λ _. true) ls ≤ inner ls + count_by (splits lab) ls + count_by (unfit n) ls
   inner_some below ls =
       let a = inner_times ls in
-      let b = sum-le (λ _. 1) (λ l. times l + weight (splits lab l) + weight (unfit n l)) (times_some below) ls in
+      let b = sum_by-le-sum_by (λ _. 1) (λ l. times l + weight (splits lab l) + weight (unfit n l)) ls (times_some below) in
       let c = sum_by-add (λ l. times l + weight (splits lab l)) (λ l. weight (unfit n l)) ls in
       let d = sum_by-add times (λ l. weight (splits lab l)) ls in
       omega arith
@@ -133,7 +129,7 @@ module _ (n : ℕ) (lab : ℕ → ℕ) where
     pub forest_le : count_by (splits lab) more ≡ 0 → count_by (unfit n) more ≡ 0 → count_by (λ _. true) more ≤ count_by (λ _. true) ls
     forest_le closed fit =
         let a = inner_some w.below more in
-        let b = sum-le (λ r. count_by (within (class n lab r)) more) (λ r. count_by (within (class n lab r)) ls) class_le (range_with_len 0 n) in
+        let b = sum_by-le-sum_by (λ r. count_by (within (class n lab r)) more) (λ r. count_by (within (class n lab r)) ls) (range_with_len 0 n) class_le in
         let c = inner_most ls in
         omega arith
 

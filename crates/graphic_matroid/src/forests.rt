@@ -12,7 +12,9 @@ use std::alloc::Global;
 /// Disjoint forests, and a partition of the nodes by which no forests as many have more lines.
 #[derive(Debug, Drop)]
 pub struct Forests {
+    /// The lines of each forest, by number.
     pub rows: NumberRows,
+    /// The classes of the partition.
     pub classes: Sides,
 }
 
@@ -30,7 +32,7 @@ pub fn most_forests(alloc: Global, graph: &Graph, k: u32) -> Result<Forests, NoM
     })
 }
 
-/// As many other disjoint forests have no more lines.
+/// The law that as many other disjoint forests have no more lines, by the partition. It does no work.
 pub fn no_more_lines(graph: &Graph, found: &Forests, other: &NumberRows)
     requires most { AreMostForests (length graph.now.names) graph.now.lines (length other.now) found.now.rows found.now.classes }
     requires forests { All (IsForest (length graph.now.names) graph.now.lines) other.now }

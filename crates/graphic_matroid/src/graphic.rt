@@ -19,7 +19,9 @@ pub struct GrowingForest {
 /// The lines of a graph as the elements of a matroid, of which the forests are free.
 #[derive(Debug, Drop)]
 pub struct Graphic {
+    /// How many nodes the graph has.
     pub nodes: usize,
+    /// The lines, of which line j is element j.
     pub lines: Vec<Line>,
     pub(crate) classes: Classes,
     pub ghost few_nodes: { nodes < 2 ^ 32 },

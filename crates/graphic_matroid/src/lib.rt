@@ -1,4 +1,4 @@
-//! The forests of a graph as free sets.
+//! The forests of a graph as the free sets of a matroid; components; disjoint forests with the most lines.
 #![tactic(auto)]
 
 mod classes;

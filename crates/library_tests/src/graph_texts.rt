@@ -6,11 +6,17 @@ use std::test::Fail;
 
 // A text with what follows it, the number of the text's bytes, the plain text, and the number of
 // the first later line that isn't skipped, or 0.
-const TEXTS: [(&[u8], usize, &[u8], usize); 12] = [
+const TEXTS: [(&[u8], usize, &[u8], usize); 13] = [
     (
         b"graph undirected\nnode a\nnode b\nedge a b\nend\n",
         44,
         b"graph undirected\nnode a\nnode b\nedge a b\nend\n",
+        0,
+    ),
+    (
+        b"graph directed\nnode a\nnode b\narc a b fixed\nend\n",
+        47,
+        b"graph directed\nnode a\nnode b\narc a b fixed\nend\n",
         0,
     ),
     (

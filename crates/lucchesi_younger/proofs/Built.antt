@@ -15,7 +15,7 @@ use Rattle.dicut_lattice.specs.Tight.{joins, IsTight}
 use Rattle.dicut_lattice.specs.Level.{IsLevel, entered_by}
 use Rattle.dicut_lattice.proofs.ClosedSides.{has-inside}
 use Rattle.graph_core.proofs.ProperLaws.{is_proper}
-use Rattle.graph_core.proofs.TestSides.{same_sides}
+use Rattle.graph_core.proofs.SideLaws.{same_sides}
 use Rattle.lucchesi_younger.specs.Kept.{at, IsArc, IsIn, IsKept, level, IsSolved, AreLayer, IsBuilt}
 use Rattle.lucchesi_younger.proofs.Joins.{entered, All-from_in, All-in, picked-in, arc-at}
 use Rattle.lucchesi_younger.proofs.Levels.{has-level, level-in, level-out, in-level, out-level, is-level}
@@ -48,9 +48,6 @@ level-same p below i none more =
     ])
 
 module _ (g : GraphValue) (fits : All (Fits (length g.names)) g.lines) (w : Work) (late : ℕ) (k : IsKept g w late) where
-  pub built-start : IsBuilt g w 0 []
-  built-start = record { tight = All-nil (IsTight g w.join); entered = λ j l arc. omega arith }
-
   -- a level that is proper is one that has pieces
   pub proper-level : (i : ℕ) → 1 ≤ i → IsProper (length g.names) (level w.potential i) → IsLevel g w.join (level w.potential i)
   proper-level i some p =

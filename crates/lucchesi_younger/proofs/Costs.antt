@@ -1,21 +1,15 @@
--- The start, and a cost that is raised by one.
-use Rattle.std.specs.Prelude.{false, ℕ, zero, suc, ◌≡◌, ◌≢◌, ◌+◌, ◌<◌, ◌≤◌, List, [], ◌∷◌, length, replicate, slice_set, sum, refl}
+-- A cost that is raised, to any value or by one.
+use Rattle.std.specs.Prelude.{false, ℕ, suc, ◌≡◌, ◌≢◌, ◌+◌, ◌<◌, ◌≤◌, List, [], ◌∷◌, length, slice_set, sum, refl}
 use Rattle.std.proofs.Common.{◌∙◌, sym, subst, arith, inl, inr}
 use Rattle.std.proofs.lemmas.Bool.{cases_eq}
-use Rattle.std.proofs.lemmas.List.{get_or-set_same, get_or-set_other, length-set, length-replicate}
+use Rattle.std.proofs.lemmas.List.{get_or-set_same, get_or-set_other, length-set}
 use Rattle.std.proofs.lemmas.List.Sums.{sum_by-set, sum_by-cons}
 use Rattle.std.proofs.lemmas.Option.{slice_get_within}
 use Rattle.graph_core.specs.Graph.{GraphValue}
 use Rattle.graph_core.specs.declared.graph.Line.{Line}
-use Rattle.problem_defs.specs.Dijoin.{IsFeasible}
 use Rattle.lucchesi_younger.specs.Kept.{at, IsArc, IsIn, IsKept, AllKept, IsLate}
 use Rattle.lucchesi_younger.specs.Spent.{IsRaised}
 use Rattle.lucchesi_younger.specs.declared.work.Work.{Work}
-
-pub at-zeros : (n v : ℕ) → at (replicate n 0) v ≡ 0
-at-zeros zero v = refl
-at-zeros (suc n) zero = refl
-at-zeros (suc n) (suc v) = at-zeros n v
 
 -- lists of numbers, place by place
 pub sum-le-sum : (xs ys : List ℕ) → length xs ≡ length ys → ((j : ℕ) → at xs j ≤ at ys j) → sum xs ≤ sum ys
@@ -24,22 +18,6 @@ sum-le-sum (x ∷ xs) [] e h = absurd (omega arith)
 sum-le-sum (x ∷ xs) (y ∷ ys) e h =
     let first : x ≤ y = h 0 in
     omega (arith, sum-le-sum xs ys (omega arith) (λ j. h (suc j)), sum_by-cons (λ n. n) x xs, sum_by-cons (λ n. n) y ys)
-
--- at costs and potentials of 0 any dijoin will do
-pub kept-start : (g : GraphValue) (join : List ℕ) → IsFeasible g join → AllKept g (record { join = join; costs = replicate (length g.lines) 0; potential = replicate (length g.names) 0 })
-kept-start g join f =
-    let none = at-zeros (length g.names) in
-    let free = at-zeros (length g.lines) in
-    record {
-      join = f;
-      costs_long = length-replicate (length g.lines) 0;
-      potential_long = length-replicate (length g.names) 0;
-      low = λ v. omega (arith, none v);
-      rises = λ j l arc. omega (arith, none l.tail);
-      most = λ j l arc _. omega (arith, none l.head);
-      equal = λ j l arc _ _. omega (arith, none l.head, none l.tail, free j);
-      apart = λ x y _ _ less. absurd (omega (arith, none y));
-    }
 
 -- the cost of one arc rises to c
 module _ (g : GraphValue) (w : Work) (k : AllKept g w) (i : ℕ) (below : i < length g.lines) (c : ℕ) (up : at w.costs i ≤ c) where

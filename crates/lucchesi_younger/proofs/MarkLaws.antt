@@ -1,17 +1,16 @@
 -- Marks that change one by one.
-use Rattle.std.specs.Prelude.{ℕ, zero, suc, ◌≡◌, ◌≢◌, ◌+◌, ◌<◌, ◌≤◌, ◌==◌, ◌⊎◌, Bool, true, false, List, [], ◌∷◌, ◌++◌, Option, Some, None, length, replicate, slice_set, slice_index_or, take, filter_map, All, refl}
+use Rattle.std.specs.Prelude.{ℕ, zero, suc, ◌≡◌, ◌≢◌, ◌+◌, ◌<◌, ◌≤◌, ◌==◌, ◌⊎◌, Bool, true, false, List, [], ◌∷◌, ◌++◌, Option, Some, None, length, slice_set, slice_index_or, take, filter_map, All, refl}
 use Rattle.std.specs.List.{cons_option}
 use Rattle.std.proofs.Common.{sym, ap, ◌∙◌, subst, arith, inl, inr, ⊎_elim}
 use Rattle.std.proofs.lemmas.Bool.{cases_eq, cases_lt, both_ways}
-use Rattle.std.proofs.lemmas.List.{get_or-set_same, get_or-set_other, length-set, get_or_past, length-replicate, take_more, append-nil}
+use Rattle.std.proofs.lemmas.List.{get_or-set_same, get_or-set_other, length-set, get_or_past, take_more, append-nil}
 use Rattle.std.proofs.lemmas.List.Elements.{filter_map-append, All-head, All-tail}
 use Rattle.std.proofs.lemmas.List.Sums.{sum_by-append}
 use Rattle.graph_core.specs.Side.{has}
 use Rattle.graph_core.specs.Picked.{occurrences}
 use Rattle.graph_core.proofs.Counting.{weight}
-use Rattle.graph_core.proofs.SideLaws.{has-none}
 use Rattle.lucchesi_younger.specs.Kept.{IsIn}
-use Rattle.lucchesi_younger.specs.Marks.{AreMarks, AreListed, AreCleared, AreAdded}
+use Rattle.lucchesi_younger.specs.Marks.{AreListed, AreCleared, AreAdded}
 use Rattle.lucchesi_younger.specs.Ways.{taken_by, left_by}
 use Rattle.lucchesi_younger.specs.declared.work.By.{By}
 use Rattle.lucchesi_younger.specs.declared.work.By.TheVariants.{Taken, Left, Jumped}
@@ -44,26 +43,6 @@ module _ (marks : List Bool) (i : ℕ) (b : Bool) where
   set-other : (j : ℕ) → j ≢ i → has (slice_set marks i b) j ≡ has marks j
   set-other j ne = get_or-set_other marks i j b false ne
 
-pub marks-none : (m : ℕ) → AreMarks m [] (replicate m false)
-marks-none m = record {
-  long = length-replicate m false;
-  each = λ j h. absurd (both_ways (has (replicate m false) j) (has-none m j) h);
-  all = λ j i. absurd (omega arith);
-}
-
-pub marks-push : (m : ℕ) (js : List ℕ) (marks : List Bool) (i : ℕ) → i < m → AreMarks m js marks → AreMarks m (js ++ i ∷ []) (slice_set marks i true)
-marks-push m js marks i below a = record {
-  long = length-set marks i true ∙ a.long;
-  each = λ j h. ⊎_elim (λ e. in-new j i js (sym e)) (λ ne. in-old j i js (a.each j (sym (set-other marks i true j ne) ∙ h))) (cases_eq j i);
-  all = λ j h. ⊎_elim
-      (λ e. rw e (set-here marks i true (omega (arith, a.long))))
-      (λ ne. set-other marks i true j ne ∙ a.all j (⊎_elim (λ e. absurd (ne (sym e))) (λ o. o) (in-push j i js h)))
-      (cases_eq j i);
-}
-
-pub cleared-none : (old : List Bool) → AreCleared [] old old
-cleared-none old = record { long = refl; none = λ j i h. omega arith; each = λ j h. h; kept = λ j h. inl h }
-
 pub cleared-push : (js : List ℕ) (old new : List Bool) (i : ℕ) → i < length old → AreCleared js old new → AreCleared (js ++ i ∷ []) old (slice_set new i false)
 cleared-push js old new i below a = record {
   long = length-set new i false ∙ a.long;
@@ -80,9 +59,6 @@ cleared-push js old new i below a = record {
       (λ ne. ⊎_elim (λ h. inl (set-other new i false j ne ∙ h)) (λ o. inr (in-old j i js o)) (a.kept j is))
       (cases_eq j i);
 }
-
-pub added-none : (old : List Bool) → AreAdded [] old old
-added-none old = record { long = refl; all = λ j i. absurd (omega arith); kept = λ j h. h; each = λ j h. inl h }
 
 pub added-push : (js : List ℕ) (old new : List Bool) (i : ℕ) → i < length old → AreAdded js old new → AreAdded (js ++ i ∷ []) old (slice_set new i true)
 added-push js old new i below a = record {
@@ -137,9 +113,6 @@ taken_not Jumped h = refl
 pub record AreListedBelow (marks : List Bool) (i : ℕ) (js : List ℕ) : Type 0 where
   pub below : (j : ℕ) → j < i → occurrences j js ≡ weight (has marks j)
   pub above : (j : ℕ) → i ≤ j → occurrences j js ≡ 0
-
-pub listed-none : (marks : List Bool) → AreListedBelow marks 0 []
-listed-none marks = record { below = λ j l. absurd (omega arith); above = λ j l. refl }
 
 pub listed-yes : (marks : List Bool) (i : ℕ) (js : List ℕ) → AreListedBelow marks i js → has marks i ≡ true → AreListedBelow marks (i + 1) (js ++ i ∷ [])
 listed-yes marks i js a is = record {

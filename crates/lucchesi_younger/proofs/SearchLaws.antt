@@ -1,25 +1,23 @@
 -- A search begins, grows and comes to its end.
-use Rattle.std.specs.Prelude.{ℕ, ◌≡◌, ◌≢◌, ◌+◌, ◌<◌, Bool, true, false, List, [], ◌∷◌, ◌++◌, length, replicate, slice_set, slice_index_or, refl}
+use Rattle.std.specs.Prelude.{ℕ, ◌≡◌, ◌+◌, ◌<◌, Bool, true, false, List, [], ◌∷◌, ◌++◌, length, replicate, slice_set, slice_index_or, refl}
 use Rattle.std.proofs.Common.{sym, ap, ◌∙◌, subst, arith, inl, inr, ◌⊎◌, ⊎_elim}
 use Rattle.std.proofs.lemmas.Bool.{cases_eq, cases_lt, both_ways, false_from_ne_true}
 use Rattle.std.proofs.lemmas.List.{get_or_append_left, get_or_push, length_push, length-set, length-replicate, get_or-set_other, get_or_read}
 use Rattle.std.proofs.lemmas.Option.{slice_get_within}
-use Rattle.graph_core.specs.Graph.{GraphValue, Fits}
+use Rattle.graph_core.specs.Graph.{GraphValue}
 use Rattle.graph_core.specs.Side.{has}
-use Rattle.graph_core.specs.declared.graph.Line.{Line}
 use Rattle.graph_core.proofs.PutLaws.{size-put, put_here, put_kept}
 use Rattle.graph_core.proofs.SideLaws.{has-none, has-below}
 use Rattle.graph_core.proofs.SizeLaws.{size-none}
 use Rattle.dicut_lattice.specs.Tight.{IsAllowed}
-use Rattle.lucchesi_younger.specs.Kept.{at, IsArc, IsIn}
+use Rattle.lucchesi_younger.specs.Kept.{at}
 use Rattle.lucchesi_younger.specs.Forcing.{Forces, Jumps, IsUnforced}
 use Rattle.lucchesi_younger.specs.Ways.{Leads, IsWay}
 use Rattle.lucchesi_younger.specs.Search.{IsSearch, IsEntered, Grows, IsArcUnforced, IsArcStep, PastArcs, PastJump, PastJumps, IsBack, node, visit}
-use Rattle.lucchesi_younger.proofs.Joins.{one-arc}
 use Rattle.lucchesi_younger.proofs.WayLaws.{way_push}
 use Rattle.std.proofs.lemmas.List.Elements.{All-nil, All-push, All-weaker}
 use Rattle.lucchesi_younger.specs.declared.work.By.{By}
-use Rattle.lucchesi_younger.specs.declared.work.By.TheVariants.{Taken, Left, Jumped}
+use Rattle.lucchesi_younger.specs.declared.work.By.TheVariants.{Left, Jumped}
 use Rattle.lucchesi_younger.specs.declared.work.Step.{Step}
 use Rattle.lucchesi_younger.specs.declared.work.Visit.{Visit}
 use Rattle.lucchesi_younger.specs.declared.work.Work.{Work}
@@ -33,9 +31,6 @@ put_cases X v u h = ⊎_elim (λ e. inl e) (λ ne. inr (sym (get_or-set_other X 
 
 put_out : (X : List Bool) (v u : ℕ) → has (slice_set X v true) u ≡ false → has X u ≡ false
 put_out X v u h = false_from_ne_true (has X u) (λ in'. both_ways (has (slice_set X v true) u) h (put_kept X v u in'))
-
-pub grows_refl : (reached : List Bool) (visits : List Visit) → Grows reached reached visits visits
-grows_refl reached visits = record { longer = omega arith; same = λ i l. refl; stays = λ v h. h }
 
 pub grows_trans : (r r' r'' : List Bool) (v v' v'' : List Visit) → Grows r r' v v' → Grows r' r'' v' v'' → Grows r r'' v v''
 grows_trans r r' r'' v v' v'' a b =
@@ -96,13 +91,6 @@ module _ (g : GraphValue) (w : Work) (late : ℕ) where
       node_new : (i : ℕ) → i ≡ length visits → node visits' i ≡ st.to
       node_new i e = ap (λ (x : Visit). x.step.to) (last i e)
 
-      pub grows_push : Grows reached reached' visits visits'
-      grows_push = record {
-        longer = (let e = length_push visits new in omega arith);
-        same = old;
-        stays = λ v h. put_out reached st.to v h;
-      }
-
       entered_old : (i : ℕ) → 0 < i → i < length visits → IsEntered g w late visits' i
       entered_old i pos h =
           let was = s.entered i pos h in
@@ -141,9 +129,6 @@ module _ (g : GraphValue) (w : Work) (late : ℕ) where
       pub search_pushed : (r : List Bool) (vs : List Visit) → r ≡ reached' → vs ≡ visits' → IsSearch g w late r vs here
       search_pushed r vs er ev = subst (λ x. IsSearch g w late x vs here) (sym er) (subst (λ x. IsSearch g w late reached' x here) (sym ev) search_push)
 
-      pub grows_pushed : (r : List Bool) (vs : List Visit) → r ≡ reached' → vs ≡ visits' → Grows reached r visits vs
-      grows_pushed r vs er ev = subst (λ x. Grows reached x visits vs) (sym er) (subst (λ x. Grows reached reached' visits x) (sym ev) grows_push)
-
       pub past_pushed : (j : ℕ) → IsArcStep g w late j st.from st → (r : List Bool) → r ≡ reached' → (v : ℕ) → has r v ≡ false → IsArcUnforced g w late j (node visits here) v
       past_pushed j h r er v out =
           subst (λ u. IsArcUnforced g w late j u v) from
@@ -161,19 +146,6 @@ module _ (g : GraphValue) (w : Work) (late : ℕ) where
       apart = λ e. both_ways (has reached to) fresh (ap (has reached) (sym e ∙ is) ∙ s.marked here l);
       to = refl;
       forces = record { equal = equal; allowed = allowed };
-    }
-
-    -- so are the nodes at no place
-    pub search_fewer : IsSearch g w late reached visits 0
-    search_fewer = record {
-      long = s.long;
-      count = s.count;
-      some = s.some;
-      root = s.root;
-      marked = s.marked;
-      queued = s.queued;
-      entered = s.entered;
-      full = λ i v below. absurd (omega arith);
     }
 
     -- one place more is done
@@ -210,50 +182,6 @@ module _ (g : GraphValue) (w : Work) (late : ℕ) where
         let level : at w.potential (node visits back) ≡ at w.potential v = ap (at w.potential) (sym e.from) ∙ f.equal ∙ same in
         let (U, sep) = (s.full back v e.earlier v_in out).apart level in
         (U, record { tight = sep.tight; holds = f.allowed U sep.tight (ap (has U) e.from ∙ sep.holds); misses = sep.misses })
-
-  -- what arc j forces
-  module _ (j : ℕ) (l : Line) (arc : IsArc g.lines j l) (fits : Fits (length g.names) l) (u : ℕ) where
-    pub step_taken : l.head ≡ u → l.fixed ≡ false → at w.potential l.head ≡ at w.potential l.tail + at w.costs j → IsArcStep g w late j u (record { by = Taken j; from = u; to = l.tail })
-    step_taken head free full = record {
-      from = refl;
-      leads = record {
-        from_in = subst (λ x. x < length g.names) head fits.head;
-        to_in = fits.tail;
-        apart = λ e. fits.apart (sym e ∙ sym head);
-        to = refl;
-        forces = record { line = l; arc = arc; free = free; full = full; from = head; to = refl };
-      };
-      other = λ v ne. record {
-        takes = λ h. ne (sym h.to ∙ ap (λ (x : Line). x.tail) (one-arc g.lines j h.line l h.arc arc));
-        leaves = λ h. fits.apart (ap (λ (x : Line). x.tail) (one-arc g.lines j l h.line arc h.arc) ∙ h.from ∙ sym head);
-      };
-    }
-
-    pub step_left : l.tail ≡ u → IsIn w.join j → j ≢ late → IsArcStep g w late j u (record { by = Left j; from = u; to = l.head })
-    step_left tail in' other = record {
-      from = refl;
-      leads = record {
-        from_in = subst (λ x. x < length g.names) tail fits.tail;
-        to_in = fits.head;
-        apart = λ e. fits.apart (tail ∙ e);
-        to = refl;
-        forces = record { line = l; arc = arc; taken = in'; other = other; from = tail; to = refl };
-      };
-      other = λ v ne. record {
-        takes = λ h. fits.apart (tail ∙ sym h.from ∙ ap (λ (x : Line). x.head) (one-arc g.lines j h.line l h.arc arc));
-        leaves = λ h. ne (sym h.to ∙ ap (λ (x : Line). x.head) (one-arc g.lines j h.line l h.arc arc));
-      };
-    }
-
-    pub step_none : (l.head ≡ u → l.fixed ≡ false → at w.potential l.head ≡ at w.potential l.tail + at w.costs j → ⊥) → (l.tail ≡ u → IsIn w.join j → j ≢ late → ⊥) → (v : ℕ) → IsArcUnforced g w late j u v
-    step_none no_take no_leave v = record {
-      takes = λ h.
-          let same = one-arc g.lines j h.line l h.arc arc in
-          no_take (ap (λ (x : Line). x.head) (sym same) ∙ h.from) (ap (λ (x : Line). x.fixed) (sym same) ∙ h.free) (subst (λ (x : Line). at w.potential x.head ≡ at w.potential x.tail + at w.costs j) same h.full);
-      leaves = λ h.
-          let same = one-arc g.lines j h.line l h.arc arc in
-          no_leave (ap (λ (x : Line). x.tail) (sym same) ∙ h.from) h.taken h.other;
-    }
 
   -- one arc more
   pub past_more : (j u u' : ℕ) (r r' : List Bool) → u' ≡ u → ((v : ℕ) → has r' v ≡ false → has r v ≡ false) → PastArcs g w late u r j → ((v : ℕ) → has r' v ≡ false → IsArcUnforced g w late j u' v) → PastArcs g w late u r' (j + 1)

@@ -1,5 +1,5 @@
 -- Costs that are raised arc by arc.
-use Rattle.std.specs.Prelude.{ℕ, ◌≡◌, ◌+◌, ◌≤◌, Bool, true, false, List, refl}
+use Rattle.std.specs.Prelude.{ℕ, ◌≡◌, ◌+◌, ◌≤◌, Bool, true, false, List}
 use Rattle.std.proofs.Common.{ap, ◌∙◌, subst, arith, ⊎_elim}
 use Rattle.std.proofs.lemmas.Bool.{cases_eq, both_ways}
 use Rattle.graph_core.specs.declared.graph.Line.{Line}
@@ -32,14 +32,6 @@ module _ (ls : List Line) (costs : List ℕ) (i : ℕ) (now : List ℕ) (s : IsS
         (cases_eq j i);
     within = s.within;
   }
-
--- at first no arc has risen
-pub risen-none : (ls : List Line) (join costs old : List ℕ) → AreRisen ls join costs 0 old old
-risen-none ls join costs old = record {
-  risen = λ j l less. absurd (omega arith);
-  fixed = λ j l arc fixed. refl;
-  taken = λ j in'. refl;
-}
 
 module _ (ls : List Line) (join costs : List ℕ) (i : ℕ) (old now : List ℕ) (r : AreRisen ls join costs i old now) (l : Line) (arc : IsArc ls i l) where
   same_fixed : (j : ℕ) (k : Line) → j ≡ i → IsArc ls j k → l.fixed ≡ k.fixed

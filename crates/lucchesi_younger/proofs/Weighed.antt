@@ -49,9 +49,6 @@ module _ {X : Type 0} (p : X → Bool) where
         | inr fail ↦ (let before : 1 ≤ 0 + weighed p xs (λ j. f (suc j)) = rw fail at some in let later = rest (omega arith) in rw fail (omega arith))
       ]
 
-  pub weighed-agree : (xs : List X) (f h : ℕ → ℕ) → ((j : ℕ) → f j ≡ h j) → weighed p xs f ≡ weighed p xs h
-  weighed-agree xs f h each t = weighed p xs (λ j. each j t)
-
   sum-cond : (k : ℕ) (xs : List X) → sum_by (λ x. cond (p x) k 0) xs ≡ k * count_by p xs
   sum-cond k [] = omega arith
   sum-cond k (x ∷ xs) =

@@ -1,8 +1,7 @@
-ghost use Rattle.std.specs.Prelude.{◌≡◌, ◌+◌, ℕ, ◌<◌, ◌≤◌, ◌^◌, length, cond, sum, slice_set, IfOk, OnOk, true, false};
+ghost use Rattle.std.specs.Prelude.{◌≡◌, ◌+◌, ℕ, ◌<◌, ◌^◌, length, cond, sum, slice_set, IfOk, OnOk};
 ghost use Rattle.std.specs.Bool.{OnFalse};
 ghost use Rattle.graph_core.specs.Side.{has};
 ghost use Rattle.lucchesi_younger.specs.Kept.{at, IsArc, IsIn, IsKept, AllKept, IsLate};
-ghost use Rattle.lucchesi_younger.specs.Search.{IsForced};
 ghost use Rattle.lucchesi_younger.specs.Ways.{IsWay, IsExchanged};
 
 use crate::force::find_forced;

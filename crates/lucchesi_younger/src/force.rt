@@ -1,14 +1,14 @@
-ghost use Rattle.std.specs.Prelude.{◌≡◌, ◌≢◌, ◌+◌, ℕ, ◌<◌, ◌≤◌, length, slice_get, IfOk, OnOk, true, false};
+ghost use Rattle.std.specs.Prelude.{◌≡◌, IfOk, OnOk, true};
 ghost use Rattle.graph_core.specs.Side.{has};
 ghost use Rattle.lucchesi_younger.specs.Kept.{IsKept};
-ghost use Rattle.lucchesi_younger.specs.Search.{IsSearch, IsForced, Grows, node};
+ghost use Rattle.lucchesi_younger.specs.Search.{IsSearch, IsForced, node};
 ghost use Rattle.lucchesi_younger.specs.Ways.{IsWay};
 
 use crate::held::Held;
 use crate::scan::{scan_place, try_jump};
 use crate::search::Search;
 use crate::work::{By, Forced, Step, Task};
-use graph_core::{Items, NoMemory, Side};
+use graph_core::{Items, NoMemory};
 use std::alloc::Global;
 
 /// Begins a search at the head of the late arc. Most often a jump leads to its tail at once.

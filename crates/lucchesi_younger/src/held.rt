@@ -25,6 +25,7 @@ pub(crate) struct Held<'a> {
 }
 
 impl<'a> Held<'a> {
+    /// Of this dijoin, with no kernel yet.
     pub(crate) fn new(
         alloc: Global,
         graph: &'a Graph,

@@ -1,4 +1,4 @@
-//! Least dijoins, by costs that are raised one by one (Lucchesi and Younger).
+//! Least dijoins, by costs that are raised arc by arc, of the arcs of the dijoin by one at a time (Lucchesi and Younger).
 #![tactic(auto)]
 
 mod change;

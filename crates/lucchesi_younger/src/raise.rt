@@ -1,5 +1,5 @@
-ghost use Rattle.std.specs.Prelude.{◌≡◌, ◌≢◌, ◌+◌, ℕ, ◌<◌, ◌≤◌, ◌^◌, length, replicate, sum, false, IfOk, OnOk};
-ghost use Rattle.std.specs.Bool.{OnTrue, OnFalse};
+ghost use Rattle.std.specs.Prelude.{◌≡◌, ◌+◌, ℕ, ◌<◌, ◌≤◌, ◌^◌, length, replicate, sum, IfOk, OnOk};
+ghost use Rattle.std.specs.Bool.{OnFalse};
 ghost use Rattle.problem_defs.specs.Dijoin.{IsFeasible};
 ghost use Rattle.lucchesi_younger.specs.Kept.{at, AllKept, IsSolved};
 ghost use Rattle.lucchesi_younger.specs.Spent.{IsSpent, IsRaised, AreRisen};

@@ -1,14 +1,13 @@
-ghost use Rattle.std.specs.Prelude.{◌≡◌, ◌≢◌, ◌+◌, ℕ, ◌<◌, ◌≤◌, ◌↔◌, length, slice_get, IfOk, OnOk, IsTrue, true, false};
+ghost use Rattle.std.specs.Prelude.{◌≡◌, ◌+◌, ℕ, ◌<◌, ◌≤◌, ◌↔◌, length, IfOk, OnOk, IsTrue, false};
 ghost use Rattle.std.specs.Bool.{OnFalse};
-ghost use Rattle.graph_core.specs.Graph.{Fits};
 ghost use Rattle.graph_core.specs.Side.{has};
-ghost use Rattle.lucchesi_younger.specs.Kept.{at, IsArc, IsKept};
-ghost use Rattle.lucchesi_younger.specs.Search.{IsSearch, Grows, IsArcForced, IsArcUnforced, PastArcs, PastJump, PastJumps, node, visit};
+ghost use Rattle.lucchesi_younger.specs.Kept.{at, IsKept};
+ghost use Rattle.lucchesi_younger.specs.Search.{IsSearch, Grows, IsArcForced, IsArcUnforced, PastArcs, PastJump, PastJumps, node};
 
 use crate::held::Held;
 use crate::search::Search;
 use crate::work::{By, Step, Task, Work};
-use graph_core::{Graph, Line, NoMemory, Side};
+use graph_core::{Line, NoMemory};
 use std::alloc::Global;
 
 /// Whether the arc isn't fixed and rises by its cost.

@@ -1,4 +1,4 @@
-ghost use Rattle.std.specs.Prelude.{◌≡◌, map, take, IfOk};
+ghost use Rattle.std.specs.Prelude.{◌≡◌, map, IfOk};
 ghost use Rattle.problem_defs.specs.Dijoin.{Suits};
 ghost use Rattle.problem_defs.specs.Dijoin.Outcomes.{IsOutcome};
 
@@ -12,7 +12,8 @@ use std::alloc::Global;
 
 /// A dijoin without fixed arcs whose costs add up to the least, and as many closed sides, of which each arc
 /// that isn't fixed enters at most as many as it costs; or a closed side that only fixed arcs enter
-/// (Lucchesi and Younger). At costs of 0 any dijoin is a least one; the costs are then raised one by one.
+/// (Lucchesi and Younger). At costs of 0 any dijoin is a least one. The costs are then raised: of the arcs outside it at once,
+/// and of each other arc by one at a time while it is in the dijoin.
 pub fn dijoin(alloc: Global, graph: &Graph) -> Result<DijoinOutcome, NoMemory>
     requires { Suits graph.now }
     ensures { IfOk result (IsOutcome graph.now) }

@@ -1,4 +1,4 @@
-ghost use Rattle.std.specs.Prelude.{◌≡◌, ℕ, ◌<◌, length, IsTrue, IfSome, None, true, false, slice_index};
+ghost use Rattle.std.specs.Prelude.{◌≡◌, ℕ, ◌<◌, length, IsTrue, IfSome, None, false, slice_index};
 ghost use Rattle.matroid_union.specs.Sets.{plus};
 ghost use Rattle.graph_core.specs.Sets.{set_of};
 ghost use Rattle.matroid_union.specs.Growing.{AreFilled};

@@ -1,4 +1,4 @@
-ghost use Rattle.std.specs.Prelude.{◌≡◌, ◌^◌, ℕ, ◌<◌, length, IfOk, false};
+ghost use Rattle.std.specs.Prelude.{◌≡◌, ◌^◌, ◌<◌, length, IfOk, false};
 ghost use Rattle.graph_core.specs.Sets.{set_of};
 ghost use Rattle.matroid_union.specs.Parts.{own_of, part, kept, IsPacking};
 ghost use Rattle.matroid_union.specs.Growing.{IsFilled, AreKept, AreFilled};

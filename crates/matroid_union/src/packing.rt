@@ -1,4 +1,4 @@
-ghost use Rattle.std.specs.Prelude.{◌≡◌, ◌^◌, ℕ, ◌<◌, length, true, false};
+ghost use Rattle.std.specs.Prelude.{◌≡◌, ◌^◌, ◌<◌, length, true, false};
 ghost use Rattle.graph_core.specs.Side.{has};
 ghost use Rattle.matroid_union.specs.Sets.{plus, swap};
 ghost use Rattle.graph_core.specs.Sets.{set_of};

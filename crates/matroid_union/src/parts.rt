@@ -1,4 +1,4 @@
-ghost use Rattle.std.specs.Prelude.{◌≡◌, ◌^◌, ℕ, ◌<◌, List, length, replicate, IfOk, OnOk, IfSome, Some, None, true, false, []};
+ghost use Rattle.std.specs.Prelude.{◌≡◌, ◌^◌, ℕ, ◌<◌, length, replicate, IfOk, OnOk, IfSome, Some, None, true, false, []};
 ghost use Rattle.graph_core.specs.Side.{has};
 ghost use Rattle.matroid_union.specs.Matroid.{IsAlike};
 ghost use Rattle.matroid_union.specs.Growing.{AreKept, AreFilled};
@@ -17,7 +17,9 @@ use std::alloc::Global;
 /// Disjoint free sets, and elements that show that they are most: those reached from the rest by exchanges.
 #[derive(Debug, Drop)]
 pub struct FreeParts {
+    /// The elements of each set, in the order of their numbers.
     pub parts: NumberRows,
+    /// A mark for each element that is reached.
     pub reached: Marks,
 }
 

@@ -1,5 +1,4 @@
-ghost use Rattle.std.specs.Prelude.{◌≡◌, ◌+◌, ◌++◌, ◌∷◌, [], ℕ, ◌<◌, ◌^◌, length, replicate, IfOk, OnOk, IfSome, None, true, false, slice_set, slice_index};
-ghost use Rattle.graph_core.specs.Side.{has};
+ghost use Rattle.std.specs.Prelude.{◌≡◌, ◌+◌, ◌++◌, ◌∷◌, [], ◌<◌, ◌^◌, length, replicate, IfOk, OnOk, IfSome, None, true, false, slice_set, slice_index};
 ghost use Rattle.matroid_union.specs.Growing.{AreKept, AreFilled};
 ghost use Rattle.matroid_union.specs.Parts.{own_of, part, kept, IsPacking, End};
 ghost use Rattle.matroid_union.specs.Search.{IsSearch, IsFull, IsShut, Begins};

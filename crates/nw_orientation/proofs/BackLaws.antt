@@ -9,7 +9,7 @@ use Rattle.graph_core.specs.Graph.{Fits, line_of, lines_of}
 use Rattle.graph_core.specs.Lines.{enters, entering}
 use Rattle.graph_core.specs.Picked.{occurrences}
 use Rattle.graph_core.specs.Side.{has}
-use Rattle.graph_core.proofs.Counting.{weight, weight-and, sum_by-agree}
+use Rattle.graph_core.proofs.Counting.{weight, weight-and, sum_by-agree, count-all}
 use Rattle.graph_core.proofs.SideLaws.{has-below}
 use Rattle.graph_core.proofs.SizeLaws.{count-cons, some_or_none}
 use Rattle.graph_core.specs.declared.graph.Line.{Line}
@@ -23,7 +23,7 @@ use Rattle.nw_orientation.proofs.ChosenLaws.{count-woven, count-turned_append}
 use Rattle.nw_orientation.proofs.MovedLaws.{left, has-left, moved_below, tail-left, head-left, IsApart, far_apart, near_touch}
 use Rattle.graph_core.proofs.HeadLaws.{nodes_named, nodes_named_by}
 use Rattle.graph_core.proofs.WeightLaws.{nodes_agree}
-use Rattle.graph_core.proofs.TestSides.{length-side_of, has-side_of, count-all}
+use Rattle.graph_core.proofs.SetLaws.{length_of, has_of}
 use Rattle.graph_core.proofs.ProperLaws.{is_proper, node_in, node_out}
 use Rattle.graph_core.specs.Pairs.{apart}
 
@@ -155,7 +155,7 @@ module _ (z q : ℕ) (lz : z ≤ q) (X : List Bool) where
   outside = left z q (λ v. not (has X v))
 
   outside_not : (v : ℕ) → v < q → has outside v ≡ not (has inside v)
-  outside_not v lv = has-side_of q (λ u. not (has X (cond (u == z) q u))) v lv ∙ ap not (sym (has-side_of q (λ u. has X (cond (u == z) q u)) v lv))
+  outside_not v lv = has_of q (λ u. not (has X (cond (u == z) q u))) v lv ∙ ap not (sym (has_of q (λ u. has X (cond (u == z) q u)) v lv))
 
   -- lines apart from z
   enters_moved : (l : Line) (h : Bool) → IsApart z q l → weight (enters X (turn l h)) ≡ weight (enters inside (turn (moved_line z q l) h))
@@ -210,7 +210,7 @@ module _ (z q : ℕ) (lz : z ≤ q) (ls : List Line) (fits : All (Fits (q + 1)) 
       spokes_agree X (λ l. weight ((l.head == z) && has N (moved z q l.tail))) (enters_arriving z q lz X here)
       ∙ sym (nodes_named_by (λ l. l.head == z) (λ l. moved z q l.tail) N (turned (spokes z ls) turns))
       ∙ nodes_agree (λ v. count_by (arrives z q v) (turned (spokes z ls) turns)) (λ v. count_by (λ a. a.tail == v) (led pairs gs)) N
-      (λ v h. claimed.arrivals v (omega (arith, has-below N v h, length-side_of q (λ u. not (has X (cond (u == z) q u))))))
+      (λ v h. claimed.arrivals v (omega (arith, has-below N v h, length_of q (λ u. not (has X (cond (u == z) q u))))))
       ∙ nodes_named (λ a. a.tail) N (led pairs gs)
 
   -- and where it isn't: as many as have their heads inside
@@ -220,7 +220,7 @@ module _ (z q : ℕ) (lz : z ≤ q) (ls : List Line) (fits : All (Fits (q + 1)) 
       spokes_agree X (λ l. weight ((l.tail == z) && has N (moved z q l.head))) (enters_departing z q lz X here)
       ∙ sym (nodes_named_by (λ l. l.tail == z) (λ l. moved z q l.head) N (turned (spokes z ls) turns))
       ∙ nodes_agree (λ v. count_by (departs z q v) (turned (spokes z ls) turns)) (λ v. count_by (λ a. a.head == v) (led pairs gs)) N
-      (λ v h. departures v (omega (arith, has-below N v h, length-side_of q (λ u. has X (cond (u == z) q u)))))
+      (λ v h. departures v (omega (arith, has-below N v h, length_of q (λ u. has X (cond (u == z) q u)))))
       ∙ nodes_named (λ a. a.head) N (led pairs gs)
 
 -- directions that are led back
@@ -234,7 +234,7 @@ led_back z q lz ls fits pairs low each hs turns long claimed k many conn X p =
     let gs = drop (length O) hs in
     let I = inside z q lz X in
     let N = outside z q lz X in
-    let I_long : length I ≡ q = length-side_of q (λ u. has X (cond (u == z) q u)) in
+    let I_long : length I ≡ q = length_of q (λ u. has X (cond (u == z) q u)) in
     let parts = count-woven (enters X) ls ms hs turns (length-map ls (λ l. not (touches z l))) (omega (arith, length-map far (moved_line z q))) (omega (arith, claimed.long)) in
     let over = entering-far z q lz X far hs (far_apart z q ls fits) in
     let added = count-turned_append (enters I) O (lines_of (apart pairs)) hs long in
@@ -257,7 +257,7 @@ led_back z q lz ls fits pairs low each hs turns long claimed k many conn X p =
             | inl (u, hu) ↦
                 let (v, lv, in') = node_in X p in
                 let ne : v ≢ z = λ e. false≢true (sym here ∙ ap (has X) (sym e) ∙ in') in
-                let lu : u < q = omega (arith, has-below N u hu, length-side_of q (λ w. not (has X (cond (w == z) q w)))) in
+                let lu : u < q = omega (arith, has-below N u hu, length_of q (λ w. not (has X (cond (w == z) q w)))) in
                 let proper = is_proper I (moved z q v) u I_long (has-left z q (has X) v lz (omega arith) ne ∙ in') lu (turn_not (has I u) (sym (outside_not z q lz X u lu) ∙ hu)) in
                 omega (arith, conn I proper, entering-led q I (λ a. has I a.head) (λ l lt lh. weight-and (has I l.head) (not (has I l.tail))) pairs gs low)
             | inr none ↦

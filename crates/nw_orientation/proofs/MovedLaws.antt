@@ -14,11 +14,12 @@ use Rattle.nw_orientation.specs.Chosen.{chosen}
 use Rattle.nw_orientation.specs.Moved.{moved, moved_line, touches, other_end, apart_marks, others, spokes, spoke_ends}
 use Rattle.nw_orientation.specs.SplitOff.{IsSpoke}
 use Rattle.nw_orientation.proofs.ChosenLaws.{count-chosen, All-chosen, chosen_pass, chosen_fail}
-use Rattle.graph_core.proofs.TestSides.{side_of, has-side_of}
+use Rattle.graph_core.specs.Sets.{set_of}
+use Rattle.graph_core.proofs.SetLaws.{has_of}
 
 -- a test of the nodes, as a side of those that are left
 abbrev pub left : ℕ → ℕ → (ℕ → Bool) → List Bool
-left z q f = side_of q (λ v. f (cond (v == z) q v))
+left z q f = set_of q (λ v. f (cond (v == z) q v))
 
 same : (x : ℕ) → (x == x) ≡ true
 same x = eq-eqb x x refl
@@ -31,7 +32,7 @@ moved_below z q v lz lv ne = elim (cases_eq v q) [
 
 pub has-left : (z q : ℕ) (f : ℕ → Bool) (v : ℕ) → z ≤ q → v ≤ q → v ≢ z → has (left z q f) (moved z q v) ≡ f v
 has-left z q f v lz lv ne =
-    has-side_of q (λ u. f (cond (u == z) q u)) (moved z q v) (moved_below z q v lz lv ne) ∙ ap f (back v ne)
+    has_of q (λ u. f (cond (u == z) q u)) (moved z q v) (moved_below z q v lz lv ne) ∙ ap f (back v ne)
   where
     back : (u : ℕ) → u ≢ z → cond (moved z q u == z) q (moved z q u) ≡ u
     back u ne = elim (cases_eq u q) [

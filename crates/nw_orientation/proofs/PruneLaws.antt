@@ -5,10 +5,10 @@ use Rattle.std.proofs.lemmas.Bool.{false≢true, cases_Bool, cases_eq, eqb-true,
 use Rattle.std.proofs.lemmas.List.{length-map, length-replicate, length-set, get_or_default, get_or-replicate, get_or-set_same, get_or-set_other}
 use Rattle.graph_core.specs.Connected.{IsEdgeConnected}
 use Rattle.graph_core.specs.Graph.{Fits}
-use Rattle.graph_core.specs.Lines.{crosses, differ, degree}
+use Rattle.graph_core.specs.Lines.{crosses, degree}
 use Rattle.graph_core.specs.Side.{has, complement, IsProper}
 use Rattle.graph_core.proofs.Counting.{weight}
-use Rattle.graph_core.proofs.CutLaws.{degree-complement}
+use Rattle.graph_core.proofs.CutLaws.{degree-complement, other_out, other_in}
 use Rattle.graph_core.proofs.SideLaws.{has-complement}
 use Rattle.graph_core.specs.declared.graph.Line.{Line}
 use Rattle.nw_orientation.specs.Chosen.{chosen}
@@ -16,7 +16,7 @@ use Rattle.nw_orientation.specs.Joined.{AreJoined, AreParted}
 use Rattle.nw_orientation.specs.Moved.{touches}
 use Rattle.nw_orientation.specs.Needed.{IsNeeded, HasBareEnd, IsLean, IsPrunedTo, AreNeeded}
 use Rattle.nw_orientation.proofs.ChosenLaws.{chosen-each, count-unmarked, All-chosen, All-marked}
-use Rattle.graph_core.proofs.TestSides.{length-side_of}
+use Rattle.graph_core.proofs.SetLaws.{length_of}
 use Rattle.graph_core.proofs.ProperLaws.{is_proper}
 use Rattle.nw_orientation.proofs.TightNode.{only, has-only_here, has-only_other, crosses-only, degree-only}
 
@@ -77,12 +77,6 @@ module _ (n c : ℕ) (ls : List Line) (j : ℕ) (ms : List Bool) (d : Line) (pru
         untried = λ i li l. get_or-set_other ms j i false false (λ h. absurd (omega arith)) ∙ pruned.untried i (omega arith) l;
       }
     where
-      other_out : (a b : Bool) → a ≡ true → differ a b ≡ true → b ≡ false
-      other_out a b = grind arith
-
-      other_in : (a b : Bool) → a ≡ false → differ a b ≡ true → b ≡ true
-      other_in a b = grind arith
-
       joined_back : (X : List Bool) → IsProper n X → has X line.tail ≡ false → has X line.head ≡ true → c ≤ degree X (chosen true ls (slice_set ms j false))
       joined_back X p f t =
           let few : All (Fits n) (chosen true ls (slice_set ms j false)) = All-chosen (Fits n) true ls (slice_set ms j false) all in
@@ -126,7 +120,7 @@ pruned_bare n c ls j ms d pruned lj all bare =
     let X = only n v in
     let live = chosen true ls ms in
     let (lv, (u, lu, ne)) = at_end n v l fits bare.touching in
-    let proper = is_proper X v u (length-side_of n (λ w. w == v)) (has-only_here n v lv) lu (has-only_other n v u lu ne) in
+    let proper = is_proper X v u (length_of n (λ w. w == v)) (has-only_here n v lv) lu (has-only_other n v u lu ne) in
     let need : IsNeeded n c live l = record {
       side = X;
       tight = record { proper = proper; value = omega (arith, degree-only n v live (All-chosen (Fits n) true ls ms all), bare.few, pruned.connected X proper) };

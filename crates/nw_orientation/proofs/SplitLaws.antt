@@ -10,7 +10,8 @@ use Rattle.graph_core.specs.Graph.{Fits, line_of, lines_of}
 use Rattle.graph_core.specs.Lines.{crosses, differ, degree}
 use Rattle.graph_core.specs.Picked.{occurrences}
 use Rattle.graph_core.specs.Side.{has, sum_over, IsProper}
-use Rattle.graph_core.proofs.Counting.{weight, All-both}
+use Rattle.graph_core.proofs.CutLaws.{other_out, other_in}
+use Rattle.graph_core.proofs.Counting.{weight, All-both, count-all}
 use Rattle.graph_core.proofs.HeadLaws.{nodes_add, nodes_named}
 use Rattle.graph_core.proofs.SizeLaws.{count-cons}
 use Rattle.graph_core.specs.declared.graph.Line.{Line}
@@ -22,35 +23,36 @@ use Rattle.nw_orientation.specs.SplitOff.{IsSpoke}
 use Rattle.nw_orientation.proofs.ChosenLaws.{All-chosen}
 use Rattle.nw_orientation.proofs.MovedLaws.{across, moved_below, degree-across, crosses-across, IsApart, far_apart, near_touch, other_is}
 use Rattle.graph_core.proofs.WeightLaws.{nodes_agree, nodes_all}
-use Rattle.graph_core.proofs.TestSides.{side_of, length-side_of, has-side_of, same_sides, count-all}
-use Rattle.graph_core.proofs.SideLaws.{has-below, has-whole}
+use Rattle.graph_core.specs.Sets.{set_of}
+use Rattle.graph_core.proofs.SetLaws.{length_of, has_of}
+use Rattle.graph_core.proofs.SideLaws.{same_sides, has-below, has-whole}
 use Rattle.graph_core.proofs.ProperLaws.{is_proper, node_in}
 use Rattle.graph_core.specs.Pairs.{apart}
 
 -- a side of the nodes that are left, as a side of all that misses z
 abbrev pub without : ℕ → ℕ → List Bool → List Bool
-without z q Y = side_of (q + 1) (λ v. cond (v == z) false (has Y (moved z q v)))
+without z q Y = set_of (q + 1) (λ v. cond (v == z) false (has Y (moved z q v)))
 
 module _ (z q : ℕ) (lz : z ≤ q) where
   without_z : (Y : List Bool) → has (without z q Y) z ≡ false
-  without_z Y = has-side_of (q + 1) (λ v. cond (v == z) false (has Y (moved z q v))) z (omega arith) ∙ rw (eq-eqb z z refl) refl
+  without_z Y = has_of (q + 1) (λ v. cond (v == z) false (has Y (moved z q v))) z (omega arith) ∙ rw (eq-eqb z z refl) refl
 
   without_old : (Y : List Bool) (v : ℕ) → v < q → has (without z q Y) (cond (v == z) q v) ≡ has Y v
   without_old Y v lv = elim (cases_eq v z) [
-    | inl e ↦ rw (e, eq-eqb z z refl) (has-side_of (q + 1) (λ u. cond (u == z) false (has Y (moved z q u))) q (omega arith) ∙ rw (ne_eqb q z (λ h. absurd (omega arith)), eq-eqb q q refl) refl)
-    | inr ne ↦ rw (ne_eqb v z ne) (has-side_of (q + 1) (λ u. cond (u == z) false (has Y (moved z q u))) v (omega arith) ∙ rw (ne_eqb v z ne, ne_eqb v q (λ h. absurd (omega arith))) refl)
+    | inl e ↦ rw (e, eq-eqb z z refl) (has_of (q + 1) (λ u. cond (u == z) false (has Y (moved z q u))) q (omega arith) ∙ rw (ne_eqb q z (λ h. absurd (omega arith)), eq-eqb q q refl) refl)
+    | inr ne ↦ rw (ne_eqb v z ne) (has_of (q + 1) (λ u. cond (u == z) false (has Y (moved z q u))) v (omega arith) ∙ rw (ne_eqb v z ne, ne_eqb v q (λ h. absurd (omega arith))) refl)
   ]
 
   across-without : (Y : List Bool) → length Y ≡ q → across z q lz (without z q Y) ≡ Y
   across-without Y long =
       let X = without z q Y in
-      same_sides (across z q lz X) Y (length-side_of q (λ v. differ (has X z) (has X (cond (v == z) q v)))) long
-      (λ v lv. has-side_of q (λ u. differ (has X z) (has X (cond (u == z) q u))) v lv ∙ (λ t. differ (without_z Y t) (without_old Y v lv t)))
+      same_sides (across z q lz X) Y (length_of q (λ v. differ (has X z) (has X (cond (v == z) q v)))) long
+      (λ v lv. has_of q (λ u. differ (has X z) (has X (cond (u == z) q u))) v lv ∙ (λ t. differ (without_z Y t) (without_old Y v lv t)))
 
   proper-without : (Y : List Bool) → IsProper q Y → IsProper (q + 1) (without z q Y)
   proper-without Y p =
       let (u, lu, hu) = node_in Y p in
-      is_proper (without z q Y) (cond (u == z) q u) z (length-side_of (q + 1) (λ v. cond (v == z) false (has Y (moved z q v)))) (without_old Y u lu ∙ hu) (omega arith) (without_z Y)
+      is_proper (without z q Y) (cond (u == z) q u) z (length_of (q + 1) (λ v. cond (v == z) false (has Y (moved z q v)))) (without_old Y u lu ∙ hu) (omega arith) (without_z Y)
 
   -- the star is covered
   pub covered : (c : ℕ) (ls : List Line) → All (Fits (q + 1)) ls → IsEdgeConnected c (q + 1) ls → (Y : List Bool) → IsProper q Y → c ≤ degree Y (others z q ls) + count_by (has Y) (spoke_ends z q ls)
@@ -110,19 +112,13 @@ module _ (z q : ℕ) (lz : z ≤ q) (ls : List Line) (fits : All (Fits (q + 1)) 
       let R = across z q lz X in
       let m = moved_line z q l in
       let over : crosses R m ≡ true = crosses-across z q lz X l a ∙ crossed in
-      let long : length R ≡ q = length-side_of q (λ v. differ (has X z) (has X (cond (v == z) q v))) in
+      let long : length R ≡ q = length_of q (λ v. differ (has X z) (has X (cond (v == z) q v))) in
       let lt = moved_below z q l.tail lz a.tail a.tail_not in
       let lh = moved_below z q l.head lz a.head a.head_not in
       elim (cases_Bool (has R m.tail)) [
         | inl t ↦ is_proper R m.tail m.head long t lh (other_out (has R m.tail) (has R m.head) t over)
         | inr f ↦ is_proper R m.head m.tail long (other_in (has R m.tail) (has R m.head) f over) lt f
       ]
-    where
-      other_out : (a b : Bool) → a ≡ true → differ a b ≡ true → b ≡ false
-      other_out a b = grind arith
-
-      other_in : (a b : Bool) → a ≡ false → differ a b ≡ true → b ≡ true
-      other_in a b = grind arith
 
   -- a needed line is needed after the split
   pub still_needed : (c : ℕ) → IsEdgeConnected c q (others z q ls ++ lines_of (apart pairs)) → (l : Line) → IsApart z q l → IsNeeded (q + 1) c ls l → IsNeeded q c (others z q ls ++ lines_of (apart pairs)) (moved_line z q l)

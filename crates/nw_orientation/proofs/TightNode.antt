@@ -9,25 +9,26 @@ use Rattle.graph_core.specs.Graph.{Fits}
 use Rattle.graph_core.specs.Lines.{crosses, differ, within, degree}
 use Rattle.graph_core.specs.Side.{has, size, meet, join, minus, IsProper}
 use Rattle.graph_core.proofs.Counting.{weight}
-use Rattle.graph_core.proofs.CutLaws.{degree_meets, degree_parts}
-use Rattle.graph_core.proofs.SideLaws.{has-zip2, has-minus, has-below}
+use Rattle.graph_core.proofs.CutLaws.{degree_meets, degree_parts, other_out, other_in}
+use Rattle.graph_core.proofs.SideLaws.{has-zip2, has-minus, has-below, same_sides}
 use Rattle.graph_core.proofs.SizeLaws.{some_or_none, count-cons}
 use Rattle.graph_core.proofs.SplitLaws.{size-split, size-has}
 use Rattle.graph_core.specs.declared.graph.Line.{Line}
 use Rattle.nw_orientation.specs.Moved.{touches}
-use Rattle.nw_orientation.specs.Needed.{IsTight, IsNeeded, IsLean}
-use Rattle.graph_core.proofs.TestSides.{side_of, length-side_of, has-side_of, same_sides}
+use Rattle.nw_orientation.specs.Needed.{IsTightCut, IsNeeded, IsLean}
+use Rattle.graph_core.specs.Sets.{set_of}
+use Rattle.graph_core.proofs.SetLaws.{length_of, has_of}
 use Rattle.graph_core.proofs.ProperLaws.{is_proper, node_in, node_out}
 
 -- the node v alone, of n
 abbrev pub only : ℕ → ℕ → List Bool
-only n v = side_of n (λ u. u == v)
+only n v = set_of n (λ u. u == v)
 
 pub has-only_here : (n v : ℕ) → v < n → has (only n v) v ≡ true
-has-only_here n v l = has-side_of n (λ u. u == v) v l ∙ grind (arith)
+has-only_here n v l = has_of n (λ u. u == v) v l ∙ grind (arith)
 
 pub has-only_other : (n v u : ℕ) → u < n → u ≢ v → has (only n v) u ≡ false
-has-only_other n v u l ne = has-side_of n (λ w. w == v) u l ∙ ne_eqb u v ne
+has-only_other n v u l ne = has_of n (λ w. w == v) u l ∙ ne_eqb u v ne
 
 -- a line crosses a single node where it touches it
 touch_once : (a b : Bool) → (a && b) ≡ false → differ a b ≡ (a || b)
@@ -41,7 +42,7 @@ both_ends n v l f = elim (cases_eq l.tail v) [
 
 pub crosses-only : (n v : ℕ) (l : Line) → Fits n l → crosses (only n v) l ≡ touches v l
 crosses-only n v l f =
-    rw (has-side_of n (λ u. u == v) l.tail f.tail, has-side_of n (λ u. u == v) l.head f.head) (touch_once (l.tail == v) (l.head == v) (both_ends n v l f))
+    rw (has_of n (λ u. u == v) l.tail f.tail, has_of n (λ u. u == v) l.head f.head) (touch_once (l.tail == v) (l.head == v) (both_ends n v l f))
 
 pub degree-only : (n v : ℕ) (ls : List Line) → All (Fits n) ls → degree (only n v) ls ≡ count_by (touches v) ls
 degree-only n v [] h = refl
@@ -96,12 +97,6 @@ ends_of X Y l inside crossed =
       | inl t ↦ record { both = l.tail; alone = l.head; both_first = ends.0; both_second = t; alone_first = ends.1; alone_second = other_out (has Y l.tail) (has Y l.head) t crossed }
       | inr f ↦ record { both = l.head; alone = l.tail; both_first = ends.1; both_second = other_in (has Y l.tail) (has Y l.head) f crossed; alone_first = ends.0; alone_second = f }
     ]
-  where
-    other_out : (a b : Bool) → a ≡ true → differ a b ≡ true → b ≡ false
-    other_out a b = grind arith
-
-    other_in : (a b : Bool) → a ≡ false → differ a b ≡ true → b ≡ true
-    other_in a b = grind arith
 
 gone : (X : List Bool) (u : ℕ) → has (slice_set X u false) u ≡ false
 gone [] u = refl
@@ -110,7 +105,7 @@ gone (x ∷ X) (suc u) = gone X u
 
 module _ {n c : ℕ} {ls : List Line} (fits : All (Fits n) ls) (lean : IsLean n c ls) where
   -- a tight side that a tight side parts has a smaller one within
-  smaller_met : (X Y : List Bool) (w : ℕ) → IsTight n c ls X → IsTight n c ls Y → Ends X Y → w < n → has X w ≡ false → has Y w ≡ false → IsTight n c ls (meet X Y)
+  smaller_met : (X Y : List Bool) (w : ℕ) → IsTightCut n c ls X → IsTightCut n c ls Y → Ends X Y → w < n → has X w ≡ false → has Y w ≡ false → IsTightCut n c ls (meet X Y)
   smaller_met X Y w x y ends lw xw yw =
       let same : length X ≡ length Y = x.proper.long ∙ sym y.proper.long in
       let met : IsProper n (meet X Y) = is_proper (meet X Y) ends.both ends.alone (length-zip2 ◌&&◌ X Y same ∙ x.proper.long)
@@ -122,7 +117,7 @@ module _ {n c : ℕ} {ls : List Line} (fits : All (Fits n) ls) (lean : IsLean n 
       lw (has-zip2 ◌||◌ refl X Y w same ∙ (λ t. xw t || yw t)) in
       record { proper = met; value = omega (arith, lean.connected (meet X Y) met, lean.connected (join X Y) joined, degree_meets ls X Y x.proper.long y.proper.long, x.value, y.value) }
 
-  smaller_parted : (X Y : List Bool) (w : ℕ) → IsTight n c ls X → IsTight n c ls Y → Ends X Y → w < n → has X w ≡ false → has Y w ≡ true → IsTight n c ls (minus X Y)
+  smaller_parted : (X Y : List Bool) (w : ℕ) → IsTightCut n c ls X → IsTightCut n c ls Y → Ends X Y → w < n → has X w ≡ false → has Y w ≡ true → IsTightCut n c ls (minus X Y)
   smaller_parted X Y w x y ends lw xw yw =
       let same : length X ≡ length Y = x.proper.long ∙ sym y.proper.long in
       let parted : IsProper n (minus X Y) = is_proper (minus X Y) ends.alone ends.both (length-zip2 (λ a b. a && not b) X Y same ∙ x.proper.long)
@@ -136,13 +131,13 @@ module _ {n c : ℕ} {ls : List Line} (fits : All (Fits n) ls) (lean : IsLean n 
       record { proper = parted; value = omega (arith, lean.connected (minus X Y) parted, lean.connected (minus Y X) back, degree_parts ls X Y x.proper.long y.proper.long, x.value, y.value) }
 
   abbrev pub Smaller : List Bool → Type 0
-  Smaller X = (Y : List Bool) × IsTight n c ls Y × (size Y < size X)
+  Smaller X = (Y : List Bool) × IsTightCut n c ls Y × (size Y < size X)
 
   abbrev pub TightNode : Type 0
   TightNode = (v : ℕ) × (v < n) × (count_by (touches v) ls ≡ c)
 
   -- so a tight side has a tight node, or a smaller tight side within
-  smaller : (X : List Bool) → IsTight n c ls X → 1 ≤ c → TightNode ⊎ Smaller X
+  smaller : (X : List Bool) → IsTightCut n c ls X → 1 ≤ c → TightNode ⊎ Smaller X
   smaller X x some =
       let (u, lu, hu) = node_in X x.proper in
       elim (some_or_none (slice_set X u false)) [
@@ -164,14 +159,14 @@ module _ {n c : ℕ} {ls : List Line} (fits : All (Fits n) ls) (lean : IsLean n 
       ]
 
       alone : (u : ℕ) → u < n → ((v : ℕ) → has (slice_set X u false) v ≡ false) → has X u ≡ true → only n u ≡ X
-      alone u lu none hu = same_sides (only n u) X (length-side_of n (λ w. w == u)) x.proper.long
+      alone u lu none hu = same_sides (only n u) X (length_of n (λ w. w == u)) x.proper.long
           (λ v lv. elim (cases_eq v u) [
             | inl e ↦ rw e (has-only_here n u lu ∙ sym hu)
             | inr ne ↦ has-only_other n u v lv ne ∙ sym (sym (get_or-set_other X u v false false ne) ∙ none v)
           ])
 
       enough : (u v : ℕ) → u < n → v < n → u ≢ v → c ≤ count_by (touches u) ls
-      enough u v lu lv ne = rw (← degree-only n u ls fits) (lean.connected (only n u) (is_proper (only n u) u v (length-side_of n (λ w. w == u)) (has-only_here n u lu) lv (has-only_other n u v lv (λ e. ne (sym e)))))
+      enough u v lu lv ne = rw (← degree-only n u ls fits) (lean.connected (only n u) (is_proper (only n u) u v (length_of n (λ w. w == u)) (has-only_here n u lu) lv (has-only_other n u v lv (λ e. ne (sym e)))))
 
       met : {l : Line} → IsNeeded n c ls l → within X l ≡ true → Smaller X
       met {l} need inside =
@@ -187,7 +182,7 @@ module _ {n c : ℕ} {ls : List Line} (fits : All (Fits n) ls) (lean : IsLean n 
             | inr outside_y ↦ (meet X Y, smaller_met X Y w x need.tight ends lw out outside_y, omega arith)
           ]
 
-  tight_below : (b : ℕ) (X : List Bool) → size X ≤ b → IsTight n c ls X → 1 ≤ c → TightNode
+  tight_below : (b : ℕ) (X : List Bool) → size X ≤ b → IsTightCut n c ls X → 1 ≤ c → TightNode
   tight_below zero X few x some = let (u, lu, hu) = node_in X x.proper in absurd (omega (arith, size-has X u hu))
   tight_below (suc b) X few x some =
       elim (smaller X x some) [
@@ -197,7 +192,7 @@ module _ {n c : ℕ} {ls : List Line} (fits : All (Fits n) ls) (lean : IsLean n 
 
   pub tight_node : 1 ≤ c → 2 ≤ n → TightNode
   tight_node some two =
-      let enough : c ≤ degree (only n 0) ls = lean.connected (only n 0) (is_proper (only n 0) 0 1 (length-side_of n (λ w. w == 0)) (has-only_here n 0 (omega arith)) two (has-only_other n 0 1 two (λ e. absurd (omega arith)))) in
+      let enough : c ≤ degree (only n 0) ls = lean.connected (only n 0) (is_proper (only n 0) 0 1 (length_of n (λ w. w == 0)) (has-only_here n 0 (omega arith)) two (has-only_other n 0 1 two (λ e. absurd (omega arith)))) in
       let need = one_of ls (IsNeeded n c ls) (omega arith) lean.needed in
       tight_below (size need.1.side) need.1.side (omega arith) need.1.tight some
     where

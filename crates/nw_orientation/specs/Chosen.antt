@@ -1,6 +1,5 @@
 -- Items that are marked, and marks for all items woven from those for the marked ones and for the rest. No public clause cites it.
 use Rattle.std.specs.Prelude.{Bool, true, false, List, [], ◌∷◌, drop, slice_index_or}
-use Rattle.graph_core.specs.declared.graph.Line.{Line}
 
 -- the items whose mark is b
 abbrev pub chosen : {A : Type 0} → Bool → List A → List Bool → List A

@@ -1,4 +1,4 @@
--- How many edges lie between two nodes. No public clause cites it.
+-- Whether each side that parts two nodes has as many edges as a number. No public clause cites it.
 use Rattle.std.specs.Prelude.{ℕ, ◌≡◌, ◌<◌, ◌≤◌, Bool, true, false, List, length, Option, None, Some}
 use Rattle.graph_core.specs.Connected.{IsEdgeConnected}
 use Rattle.graph_core.specs.Lines.{degree}

@@ -8,14 +8,14 @@ use Rattle.nw_orientation.specs.Chosen.{chosen}
 use Rattle.nw_orientation.specs.Moved.{touches}
 
 -- a proper side with just c edges
-pub record IsTight (n c : ℕ) (ls : List Line) (X : List Bool) : Type 0 where
+pub record IsTightCut (n c : ℕ) (ls : List Line) (X : List Bool) : Type 0 where
   pub proper : IsProper n X
   pub value : degree X ls ≡ c
 
 -- the line crosses such a side
 pub record IsNeeded (n c : ℕ) (ls : List Line) (l : Line) : Type 0 where
   pub side : List Bool
-  pub tight : IsTight n c ls side
+  pub tight : IsTightCut n c ls side
   pub crossed : crosses side l ≡ true
 
 -- an end of the line has at most c lines

@@ -50,7 +50,8 @@ fn orient_rest(
     weave(alloc, &marks, &heads, &[])
 }
 
-/// A k-arc-connected orientation of an undirected graph, or a side that forbids every one (Nash-Williams).
+/// A k-arc-connected orientation of an undirected graph, or a proper side that forbids every one, since fewer than 2k edges
+/// leave it (Nash-Williams 1960). It recurses once for each node.
 pub fn orient(alloc: Global, graph: &Graph, k: u32) -> Result<OrientOutcome, NoMemory>
     requires kind { graph.now.kind ≡ Undirected }
     requires k { IsK k }

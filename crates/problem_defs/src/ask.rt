@@ -21,9 +21,13 @@ pub enum Ask {
 /// Why an ask doesn't suit a graph.
 #[derive(Clone, Copy, Debug, PartialEq, Eq)]
 pub enum Misfit {
+    /// A digraph is asked for and the graph is undirected, or the other way round.
     Kind,
+    /// A node that the graph doesn't have.
     Node,
+    /// Two nodes that have to be different are the same.
     Same,
+    /// The graph has one node alone.
     Small,
 }
 

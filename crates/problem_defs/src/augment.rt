@@ -12,7 +12,7 @@ use crate::certify::Certify;
 use crate::problem::Problem;
 use graph_core::{Graph, Pairs, Sides};
 
-/// Fewest new edges that make a graph k-edge-connected.
+/// Fewest new edges that make a graph k-edge-connected (Watanabe and Nakamura; Frank).
 #[derive(Clone, Copy, Debug)]
 pub struct AugmentAsk {
     pub k: u32,

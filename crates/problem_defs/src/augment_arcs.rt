@@ -13,7 +13,7 @@ use crate::certify::Certify;
 use crate::problem::Problem;
 use graph_core::{Graph, Pairs, Side};
 
-/// Fewest new arcs that make a digraph k-arc-connected.
+/// Fewest new arcs that make a digraph k-arc-connected (Frank).
 #[derive(Clone, Copy, Debug)]
 pub struct AugmentArcsAsk {
     pub k: u32,

@@ -8,7 +8,7 @@ pub enum Way {
     Leaving,
 }
 
-/// A disjoint family of sides of a digraph, each of which lacks arcs that enter it, or that leave it.
+/// Sides of a digraph, and which arcs of theirs are counted.
 #[derive(Debug, Drop)]
 pub struct Family {
     pub way: Way,

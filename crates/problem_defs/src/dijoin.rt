@@ -3,7 +3,7 @@ ghost use Rattle.problem_defs.specs.Ask.{misfit_of};
 ghost use Rattle.problem_defs.specs.Dijoin.{IsFeasible, Forbids, problem};
 ghost use Rattle.problem_defs.specs.Dijoin.Cert.{dijoin_suits, dijoin-meets};
 ghost use Rattle.problem_defs.specs.Dijoin.Law.{law};
-ghost use Rattle.problem_defs.specs.Dijoin.Outcomes.{IsOutcome};
+ghost use Rattle.problem_defs.specs.Dijoin.Outcomes.{IsOutcome, body_of};
 ghost use Rattle.problem_defs.specs.Meets.{Meets};
 ghost use Rattle.problem_defs.specs.declared.ask.Ask.TheVariants as asks;
 ghost use Rattle.problem_defs.specs.declared.cert.Body.TheVariants as bodies;
@@ -97,6 +97,7 @@ pub fn dijoin_certificate(graph: &Graph, outcome: DijoinOutcome) -> Cert
     requires suits { misfit_of graph.now asks.Dijoin ≡ None }
     requires outcome { IsOutcome graph.now outcome }
     ensures ask { result.ask ≡ asks.Dijoin }
+    ensures body { result.body ≡ body_of graph.now outcome }
     ensures meets { Meets graph.now result }
 {
     match outcome {

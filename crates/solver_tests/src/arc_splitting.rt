@@ -2,6 +2,7 @@
 
 ghost use Rattle.std.specs.Prelude.{◌≡◌, ◌+◌, ◌≤◌, [], ◌∷◌, true, length, sum, IfOk};
 ghost use Rattle.cut_fn.specs.Covered.{IsCovered};
+ghost use Rattle.graph_core.specs.Limits.{line_room};
 ghost use Rattle.cut_fn.specs.Stars.{star_of, star_enter, star_leave};
 
 use crate::asserts::same;
@@ -44,7 +45,7 @@ fn is_covered<F: CutFn>(alloc: Global, f: &F, k: u64) -> Result<bool, NoMemory>
 /// The star.
 fn two_alone(rt: &impl Abort, alloc: Global) -> Result<ArcStar, Fail>
     ensures nodes { IfOk result (λ star. length star.graph.names ≡ 2) }
-    ensures room { IfOk result (λ star. length star.graph.lines + sum star.into ≤ 65536) }
+    ensures room { IfOk result (λ star. length star.graph.lines + sum star.into ≤ line_room) }
     ensures same { IfOk result (λ star. sum star.into ≡ sum star.out) }
     ensures enters { IfOk result (λ star. IsCovered 2 2 (star_enter (star_of star))) }
     ensures leaves { IfOk result (λ star. IsCovered 2 2 (star_leave (star_of star))) }

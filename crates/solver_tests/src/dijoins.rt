@@ -18,7 +18,7 @@ const FREE_ARC: &[u8] = b"graph directed\nnode a\nnode b\narc a b cost 0\nend\n"
 const CHEAPER_ARC: &[u8] =
     b"graph directed\nnode a\nnode b\narc a b cost 100\narc a b cost 7\nend\n";
 
-/// Two ways from a to d. Arcs ab and bd are a least dijoin, and ab and cd enter {b, d} alone twice.
+/// Two ways from a to d. Arcs ab and bd are a least dijoin; the cheaper ab and cd enter {b, d} twice and miss {c, d}.
 const DIAMOND: &[u8] =
     b"graph directed\nnode a\nnode b\nnode c\nnode d\narc a b\narc a c cost 3\narc b d cost 3\narc c d\nend\n";
 

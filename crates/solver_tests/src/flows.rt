@@ -1,6 +1,7 @@
 //! Least cuts of small networks, and a large one.
 
 ghost use Rattle.std.specs.Prelude.{◌≡◌, ◌<◌, ◌≤◌, All, IfOk, IsTrue, length};
+ghost use Rattle.graph_core.specs.Limits.{side_room};
 
 use crate::asserts::same;
 use flow_cuts::{Cap, Flow, sparse_side};
@@ -22,7 +23,7 @@ fn fit(n: usize, arcs: &[Cap]) -> bool
 }
 
 pub fn side_of(alloc: Global, n: usize, nodes: &[u32]) -> Result<Side, NoMemory>
-    requires { n ≤ 8192 }
+    requires { n ≤ side_room }
     ensures { IfOk result (λ side. length side ≡ n) }
 {
     let mut side = Side::empty(alloc, n)?;
@@ -33,7 +34,7 @@ pub fn side_of(alloc: Global, n: usize, nodes: &[u32]) -> Result<Side, NoMemory>
 }
 
 pub fn is_side_of(side: &Side, nodes: &[u32]) -> bool
-    requires { length side.now ≤ 8192 }
+    requires { length side.now ≤ side_room }
 {
     for v in 0..side.len() as u32 {
         if side.has(v) != nodes.contains(&v) {
@@ -58,7 +59,7 @@ struct Run<'a> {
 fn runs(rt: &impl Abort, flow: &mut Flow, inside: &mut Side, outside: &Side, run: &Run<'_>)
     requires inside { length inside.old ≡ flow.old.nodes }
     requires outside { length outside.now ≡ flow.old.nodes }
-    requires nodes { flow.old.nodes ≤ 8192 }
+    requires nodes { flow.old.nodes ≤ side_room }
 {
     flow.run(outside, inside, run.stop);
     let answer = flow.run(inside, outside, run.stop);

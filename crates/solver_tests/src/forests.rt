@@ -1,13 +1,15 @@
-//! The forests of the complete graph on four nodes with one edge twice.
+//! The forests and trees of the complete graph on four nodes with one edge twice.
 
 use crate::asserts::same;
-use graph_core::{Marks, NoMemory};
+use forest_cover::cover_forests;
+use graph_core::{Kind, Marks, NoMemory};
 use graphic_matroid::{Graphic, components, most_forests, no_more_lines};
 use matroid_union::Matroid;
 use std::alloc::Global;
 use std::process::Abort;
 use std::test::Fail;
 use test_graphs::graph_of;
+use tree_packing::pack_trees;
 
 // Lines ab, ac, ad, bc, bd, cd, ab.
 const GRAPH: &[u8] =
@@ -114,5 +116,17 @@ fn most_lines_of_disjoint_forests(rt: HostRuntime) -> Result<(), Fail> {
         let sizes = (found.rows.len(), lines, found.classes.len());
         same(&rt, &sizes, &(k as usize, taken, classes), &k);
     }
+    Ok(())
+}
+
+#[test]
+fn most_trees_and_fewest_forests(rt: HostRuntime) -> Result<(), Fail> {
+    let graph = graph_of(rt.alloc(), GRAPH)?;
+    assert!(rt; graph.kind() == Kind::Undirected);
+    assert!(rt; graph.node_count() >= 2);
+    let trees = pack_trees(rt.alloc(), &graph)?;
+    let forests = cover_forests(rt.alloc(), &graph)?;
+    let found = (trees.object.len(), forests.object.len());
+    same(&rt, &found, &(2, 3), &"trees and forests");
     Ok(())
 }

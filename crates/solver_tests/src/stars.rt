@@ -113,7 +113,7 @@ fn stars_of_graphs_have_least_counts(rt: HostRuntime) -> Result<(), Fail> {
 type ArcRow<'a> = (&'a str, &'a [u8], u32, u64, Way);
 
 const DIGRAPHS: [ArcRow<'static>; 2] = [
-    // Of the sides with an arc too few {a} holds all that lack one that enters, and {b} and {c} lack one that leaves.
+    // Each side that lacks an arc that enters holds a, and {b} and {c} lack one that leaves.
     ("out of one node", OUT_STAR, 1, 2, Way::Leaving),
     // Node a with a count of 1 would be enough for the arcs that enter, but {b} and {c} lack one that leaves.
     ("two sides that cross", CROSSING, 2, 2, Way::Leaving),
@@ -196,7 +196,7 @@ fn becomes_disjoint(
     Ok(())
 }
 
-// The ends of the path have count 1 each. The proper sides but {b}, which has value 2 by its edges, and {a, c}, of value 4, are tight.
+// The ends of the path have count 1 each. All proper sides are tight but {a, c}, of value 4; {b} is so by its edges alone.
 #[test]
 fn tight_sides_of_a_path_become_disjoint(rt: HostRuntime) -> Result<(), Fail> {
     let graph = graph_of(rt.alloc(), PATH)?;

@@ -11,8 +11,8 @@ ghost use Rattle.flow_cuts.specs.GraphArcs.{arcs_of};
 use crate::asserts::same;
 use cut_fn::EdgeCut;
 use failing_links::{failures_that_part, no_longer_plan};
-use flow_cuts::{capacity_is_the_cut, least_cuts_meet_and_join, most_walks};
-use graph_core::{Graph, Kind, Line, NumberRows};
+use flow_cuts::{Flow, capacity_is_the_cut, least_cuts_meet_and_join, most_walks};
+use graph_core::{Graph, Kind, Line, NoMemory, NumberRows, Side};
 use problem_defs::{Certified, FlowAsk, Problem, best};
 use std::alloc::{AllocError, Global};
 use std::process::Abort;
@@ -118,6 +118,27 @@ fn are_disjoint_walks(
     Ok(true)
 }
 
+// The walks of a run that stops at so many.
+fn walks_of_run(
+    alloc: Global,
+    graph: &Graph,
+    from: u32,
+    to: u32,
+    stop: u64,
+) -> Result<NumberRows, NoMemory>
+    requires { Suits from to graph.now }
+{
+    graph.known();
+    let n = graph.node_count();
+    let mut inside = Side::empty(alloc, n)?;
+    let mut outside = Side::empty(alloc, n)?;
+    let mut flow = Flow::of_graph(alloc, graph)?;
+    inside.hold_only(from);
+    outside.hold_only(to);
+    flow.run(&inside, &outside, stop);
+    flow.walks(alloc)
+}
+
 // Each feasible object is no better, so neither is the object itself; value and bound are numbers that are equal.
 fn value_and_bound(graph: &Graph, found: &Certified<FlowAsk>) -> (u64, u64)
     requires suits { Suits found.now.ask.from found.now.ask.to graph.now }
@@ -150,6 +171,14 @@ fn are_found(
             rt,
             &(found.object.len(), disjoint),
             &(count, true),
+            &(from, to),
+        );
+        let first = walks_of_run(alloc, &graph, from, to, 1)?;
+        let disjoint = are_disjoint_walks(alloc, &graph, &first, from, to)?;
+        same(
+            rt,
+            &(first.len(), disjoint),
+            &(count.min(1), true),
             &(from, to),
         );
         let want = (count as u64, count as u64);

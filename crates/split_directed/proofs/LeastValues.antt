@@ -12,7 +12,7 @@ use Rattle.cut_fn.specs.TwoSides.{IsWithin}
 use Rattle.flow_cuts.specs.LeastMissing.{HasMissing, IsLeastMissing}
 use Rattle.split_directed.specs.declared.half.Half.{Half}
 use Rattle.split_directed.specs.Half.{value}
-use Rattle.split_directed.specs.Least.{HasBoth, IsLeastOver, MissesCount}
+use Rattle.split_directed.specs.Least.{HasBoth, IsLeastOver}
 
 -- the search over missed nodes: the nodes below w with a count are held, and so is H by each side of a value below the answer
 pub record IsSearched (n : ℕ) (f : List Bool → ℕ) (counts : List ℕ) (u t stop w answer : ℕ) (H X : List Bool) : Type 0 where
@@ -70,19 +70,6 @@ module _ {n u t stop w answer : ℕ} {f : List Bool → ℕ} {counts : List ℕ}
           let e : answer ≡ answer' = omega (arith, least.stopped, ge) in
           let b = s.reached (omega (arith, short, e)) in
           subst (HasBoth n f u t answer') (sym (kept ge)) (record { proper = b.proper; first = b.first; second = b.second; value_is = b.value_is ∙ e })
-
-  -- at the end no side has less
-  pub searched_all : n ≤ w → MissesCount n f counts u t stop → IsLeastOver n f u t stop answer X
-  searched_all all missed = record {
-    stopped = s.stopped;
-    least = λ Y y yu yt. elim (cases_lt (f Y) answer) [
-      | inr ge ↦ ge
-      | inl short ↦
-          let (v, l, out, some) = missed Y y yu yt (omega (arith, short, s.stopped)) in
-          absurd (cc ((s.held Y y yu yt short).at v (s.below v (omega arith) some), out))
-    ];
-    reached = s.reached;
-  }
 
 -- two nodes and no other
 pub record IsTwo (n u t : ℕ) (H : List Bool) : Type 0 where

@@ -1,6 +1,6 @@
 -- Mader's theorem for a star, and what the most up to a limit says of it.
-use Rattle.std.specs.Prelude.{ℕ, suc, ◌≡◌, ◌+◌, ◌-◌, ◌<◌, ◌≤◌, Bool, true, false, ◌&&◌, ◌||◌, cond, List, [], ◌∷◌, length, slice_index, sum, refl}
-use Rattle.std.proofs.Common.{sym, ap, subst, ◌∙◌, inl, inr, arith}
+use Rattle.std.specs.Prelude.{ℕ, suc, ◌≡◌, ◌+◌, ◌<◌, ◌≤◌, Bool, true, false, ◌&&◌, ◌||◌, cond, List, [], ◌∷◌, length, slice_index, sum, refl}
+use Rattle.std.proofs.Common.{sym, ap, ◌∙◌, inl, inr, arith}
 use Rattle.std.proofs.lemmas.Bool.{cases_Bool, cases_lt}
 use Rattle.graph_core.specs.Side.{has, join, sum_over, IsProper}
 use Rattle.graph_core.specs.Lines.{entering, leaving}
@@ -12,7 +12,7 @@ use Rattle.problem_defs.specs.Ways.{opposite}
 use Rattle.split_directed.specs.Ways.{same, counts_for, value_for, taken_in}
 use Rattle.split_directed.specs.Allowed.{Allows, IsMost}
 use Rattle.cut_fn.specs.Stars.{StarValue, star_enter, star_leave}
-use Rattle.split_directed.specs.Least.{HasBoth, IsLeastOver, MissesCount}
+use Rattle.split_directed.specs.Least.{HasBoth, MissesCount}
 use Rattle.split_directed.specs.State.{IsCoveredStar}
 use Rattle.split_directed.specs.Turn.{IsFewest, IsMostUpTo, IsWitness, IsLeft}
 use Rattle.graph_core.proofs.NodeCounts.{some_outside}
@@ -33,26 +33,6 @@ module _ {n k : ℕ} {s : StarValue} (c : IsCoveredStar n k s) where
       → MissesCount n (value_for w s) (counts_for (opposite w) s) u t stop
   misses Entering u t b stop lu lt le X x hu ht short = missed_count (covered_enter c) X t b x ht lt (omega (arith, short))
   misses Leaving u t b stop lu lt le X x hu ht short = missed_count (covered_leave c) X u b x hu lu (omega (arith, short))
-
-  -- the two least values, one after the other
-  pub most_found : {u t b a a' : ℕ} {X X' : List Bool} → IsLeastOver n (star_enter s) u t (k + b) a X → IsLeastOver n (star_leave s) u t a a' X' → (a ≤ a' → X' ≡ X)
-      → (w : Way) → (a' < a → w ≡ Leaving) → (a ≤ a' → w ≡ Entering) → IsMostUpTo n k s u t b (a' - k) w X'
-  most_found {u} {t} {b} {a} {a'} {X} {X'} e l kept w w_leaving w_entering = record {
-    within = omega (arith, e.stopped, l.stopped);
-    enters = λ Y y yu yt. omega (arith, e.least Y y yu yt, l.stopped, above);
-    leaves = λ Y y yu yt. omega (arith, l.least Y y yu yt, above);
-    blocked = λ short. elim (cases_lt a' a) [
-      | inl lt ↦ (let b = l.reached lt in subst (λ v. HasBoth n (value_for v s) u t (k + (a' - k)) X') (sym (w_leaving lt)) (record { proper = b.proper; first = b.first; second = b.second; value_is = b.value_is ∙ omega (arith, above) }))
-      | inr ge ↦ (let b = e.reached (omega (arith, short, ge)) in
-          subst (λ v. HasBoth n (value_for v s) u t (k + (a' - k)) X') (sym (w_entering ge)) (subst (HasBoth n (star_enter s) u t (k + (a' - k))) (sym (kept ge)) (record { proper = b.proper; first = b.first; second = b.second; value_is = b.value_is ∙ omega (arith, above, l.stopped, ge) })))
-    ];
-  }
-    where
-      above_a : k ≤ a
-      above_a = elim (cases_lt a (k + b)) [ inl lt ↦ (let h = e.reached lt in omega (arith, h.value_is, c.enters X h.proper)) | inr ge ↦ omega arith ]
-
-      above : k ≤ a'
-      above = elim (cases_lt a' a) [ inl lt ↦ (let h = l.reached lt in omega (arith, h.value_is, c.leaves X' h.proper)) | inr ge ↦ omega (arith, above_a) ]
 
   -- up to the smaller count it is the most of all
   pub most_of_all : {u t b q : ℕ} {w : Way} {X : List Bool} → IsMostUpTo n k s u t b q w X → IsFewest s.out s.into u t b → IsMost n k s u t q

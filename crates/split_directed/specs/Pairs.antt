@@ -1,15 +1,11 @@
 -- Splitting off a whole star, in pairs of nodes.
-use Rattle.std.specs.Prelude.{ℕ, ◌≡◌, ◌≢◌, ◌<◌, ◌≤◌, ◌==◌, ◌⊎◌, ◌++◌, Bool, true, not, List, length, slice_index, sum, count_by, All}
-use Rattle.std.specs.List.{filter}
+use Rattle.std.specs.Prelude.{ℕ, ◌≡◌, ◌≢◌, ◌<◌, ◌≤◌, ◌==◌, ◌⊎◌, ◌++◌, Bool, true, List, length, slice_index, sum, count_by, All}
 use Rattle.graph_core.specs.Side.{has}
 use Rattle.graph_core.specs.Graph.{lines_of}
+use Rattle.graph_core.specs.Pairs.{apart}
 use Rattle.graph_core.specs.Connected.{IsArcConnected}
 use Rattle.cut_fn.specs.Covered.{IsTight}
 use Rattle.cut_fn.specs.Stars.{StarValue, star_enter, star_leave}
-
--- the pairs of different nodes
-abbrev pub apart : List (ℕ × ℕ) → List (ℕ × ℕ)
-apart pairs = filter (λ p. not (p.0 == p.1)) pairs
 
 -- each node with an arc to it lies in a tight side of `star_enter`
 abbrev pub AreHeadsTight : ℕ → ℕ → StarValue → Type 0

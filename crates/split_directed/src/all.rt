@@ -9,8 +9,9 @@ use cut_fn::ArcStar;
 use graph_core::{NoMemory, Pairs, written_out};
 use std::alloc::Global;
 
-/// Splits off the whole star, in pairs: an arc from the first node and one to the second become an arc between them. Where at
-/// least `k` arcs of the star enter each proper side, and leave it, the graph with these arcs is k-arc-connected (Mader 1982).
+/// Splits off the whole star, in pairs: an arc from the first node and one to the second become an arc from the one to the
+/// other, where they differ. Where at least `k` arcs of the star enter each proper side, and leave it, the graph with these
+/// arcs is k-arc-connected (Mader 1982).
 pub fn split_all(alloc: Global, star: &ArcStar, k: u32) -> Result<Pairs, NoMemory>
     requires room { length star.now.graph.lines + sum star.now.into ≤ line_room }
     requires same { sum star.now.into ≡ sum star.now.out }

@@ -1,4 +1,4 @@
-ghost use Rattle.std.specs.Prelude.{◌≡◌, ◌+◌, ◌++◌, ◌^◌, ◌<◌, ◌≤◌, [], ◌∷◌, ℕ, length, slice_index, sum, IfOk, OnOk};
+ghost use Rattle.std.specs.Prelude.{◌≡◌, ◌+◌, ◌^◌, ◌<◌, ◌≤◌, [], ℕ, length, slice_index, sum, IfOk, OnOk};
 ghost use Rattle.cut_fn.specs.Stars.{star_of};
 ghost use Rattle.split_directed.specs.State.{left_of, rows_with, IsState, IsCoveredStar};
 ghost use Rattle.split_directed.specs.Turn.{IsFewest, IsMostUpTo, IsLeft};

@@ -39,7 +39,8 @@ pub fn most_over(
     Ok((least - k as u64) / 2)
 }
 
-/// The largest number of pairs of `u` and `v` that can be split off.
+/// How many pairs of `u` and `v` can be split off, so that at least `k` edges still leave each proper side. A pair of equal
+/// nodes takes two edges.
 pub fn most(alloc: Global, star: &Star, k: u32, u: u32, v: u32) -> Result<u64, NoMemory>
     requires u { u < length star.now.graph.names }
     requires v { v < length star.now.graph.names }

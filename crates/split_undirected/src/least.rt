@@ -11,8 +11,8 @@ use flow_cuts::StarFlow;
 use graph_core::{NoMemory, Side};
 use std::alloc::Global;
 
-/// Looks at the sides that hold `held` and miss node `w`, for a value below `least`. From then on `w` is held. Once `held` has
-/// so many edges that the other sides can't have such a value, there is nothing to look for.
+/// Looks at the sides that hold `held` and miss node `w`, for a value below `least`, and holds `w` afterwards. There is nothing
+/// to look for where `w` has no edge or is held, or where `held` has so many edges that no side with it has such a value.
 fn try_without(
     net: &mut StarFlow,
     held: &mut Side,
@@ -44,7 +44,7 @@ fn try_without(
     found
 }
 
-/// The same for one node after another.
+/// The same for one node after another: the least value found, or `stop`.
 fn try_nodes(net: &mut StarFlow, held: &mut Side, k: u32, stop: u64, into: &mut Side) -> u64
     requires few { sum net.old.counts.now ≤ 2 * line_room }
     requires held { length held.old ≡ length net.old.counts.now }

@@ -1,4 +1,4 @@
-//! Splitting off pairs of edges in a star of a graph (Lovász).
+//! Splitting off pairs of edges in a star of a graph (Lovász 1979).
 #![tactic(auto)]
 
 mod largest;

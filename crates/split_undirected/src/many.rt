@@ -93,7 +93,8 @@ fn split_node(
     Ok(())
 }
 
-/// Splits all edges of a star off, with as many copies of a pair at once as can be (Lovász). No two nodes are tried twice.
+/// Splits all edges of a star off, in rows (u, v, q): q edges to u and q to v become q edges between them, or none where u is
+/// v. Each row has as many as can be split off after the rows before it, and no two nodes are tried twice (Lovász 1979).
 pub fn split_many(alloc: Global, star: &Star, k: u32) -> Result<WeightedPairs, NoMemory>
     requires { CanBeSplit k star.now }
     ensures { IfOk result (AreSplit k star.now) }

@@ -11,7 +11,7 @@ use cut_fn::Star;
 use graph_core::{NoMemory, Pairs, Side, written_out};
 use std::alloc::Global;
 
-/// A node that can be split off with `u`: no proper side with both has a value of at most `k + 1` (Lovász).
+/// A node that can be split off with `u` once: no proper side with both has a value of at most `k + 1` (Lovász 1979).
 pub fn partner(alloc: Global, star: &Star, k: u32, u: u32) -> Result<u32, NoMemory>
     requires split { CanBeSplit k star.now }
     requires some { 1 ≤ slice_index star.now.count u }
@@ -33,7 +33,8 @@ pub fn partner(alloc: Global, star: &Star, k: u32, u: u32) -> Result<u32, NoMemo
     }
 }
 
-/// Pairs that split all edges of a star off and leave its graph k-edge-connected.
+/// Pairs that split all edges of a star off and leave its graph k-edge-connected (Lovász 1979): of a pair an edge to each node
+/// goes, and the two nodes become an edge, where they differ.
 pub fn split_all(alloc: Global, star: &Star, k: u32) -> Result<Pairs, NoMemory>
     requires { CanBeSplit k star.now }
     ensures { IfOk result (IsSplit k star.now) }

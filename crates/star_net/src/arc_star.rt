@@ -5,15 +5,16 @@ ghost use Rattle.problem_defs.specs.Ways.{count_for};
 ghost use Rattle.star_net.specs.Lowered.{IsLowered};
 ghost use Rattle.star_net.specs.TightArcStar.{IsTightArcStar};
 
-use crate::balance::{balance, total};
+use crate::balance::balance;
 use crate::counts::{LeastCounts, least_counts};
-use cut_fn::ArcStar;
+use cut_fn::{ArcStar, total_count};
 use flow_cuts::arcs_by;
 use graph_core::{Counts, Graph, NoMemory, Sides};
 use problem_defs::Way;
 use std::alloc::Global;
 
-/// A star of a digraph, and disjoint sides that are tight the one way and hold each node with a count of it.
+/// A star of a digraph, and disjoint sides that are tight for ρ or for δ, as `way` says, and hold each node with a count of
+/// that way.
 #[derive(Debug, Drop)]
 pub struct TightArcStar {
     pub star: ArcStar,
@@ -45,7 +46,7 @@ pub fn least_arc_star(alloc: Global, graph: &Graph, k: u32) -> Result<TightArcSt
         into: Counts::from_vec(into.counts),
         out: Counts::from_vec(out.counts),
     };
-    if total(&star.out) <= total(&star.into) {
+    if total_count(star.out.as_slice()) <= total_count(star.into.as_slice()) {
         balance(alloc, star, Way::Entering, into.family, k as u64)
     } else {
         balance(alloc, star, Way::Leaving, out.family, k as u64)

@@ -1,7 +1,6 @@
-ghost use Rattle.std.specs.Prelude.{◌≡◌, ◌<◌, ◌≤◌, ℕ, Bool, false, List, [], ◌∷◌, length, replicate, IfOk};
+ghost use Rattle.std.specs.Prelude.{◌≡◌, ◌≤◌, ℕ, Bool, false, List, [], ◌∷◌, length, replicate, IfOk};
 ghost use Rattle.graph_core.specs.Lines.{degree};
 ghost use Rattle.graph_core.specs.Side.{complement, IsOnly, IsProper};
-ghost use Rattle.graphic_matroid.specs.Components.{AreComponents};
 ghost use Rattle.problem_defs.specs.Trees.{Suits, IsDual};
 ghost use Rattle.tree_packing.specs.Start.{IsWithinSingles, IsWithinNodes, IsStart};
 

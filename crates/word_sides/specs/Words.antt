@@ -2,6 +2,7 @@
 use Rattle.std.specs.Prelude.{◌≡◌, ℕ, ◌+◌, ◌/◌, ◌%◌, ◌≤◌, max, Bool, false, List, map, length, slice_index_or, eqb, bit_and, bit_xor, count_by}
 use Rattle.std.specs.Int.{bit_at}
 use Rattle.std.specs.List.{range_with_len}
+use Rattle.word_sides.specs.Limits.{most_values}
 
 -- whether bit b of the word is set
 abbrev pub bit : ℕ → ℕ → Bool
@@ -21,7 +22,7 @@ room n = max 2 ((n + 63) / 64)
 
 -- the words are as many as n values stand in, and no bit past the values is set
 pub record IsClean (n : ℕ) (ws : List ℕ) : Type 0 where
-  pub few : n ≤ 8192
+  pub few : n ≤ most_values
   pub long : length ws ≡ room n
   pub past : (i : ℕ) → n ≤ i → value ws i ≡ false
 

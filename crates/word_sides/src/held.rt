@@ -1,10 +1,11 @@
 //! Where the words of a list stand: in the value itself, or in an allocation.
 ghost use Rattle.std.specs.Prelude.{◌≡◌, ◌≢◌, ◌<◌, ◌≤◌, ◌/◌, ℕ, length, replicate, map, not, IfOk, bit_and, bit_or};
 ghost use Rattle.word_sides.specs.Held.{len_of, words_of};
+ghost use Rattle.word_sides.specs.Limits.{most_values};
 ghost use Rattle.word_sides.specs.Words.{IsClean, room, value, values, without};
 ghost use lib.Lanes.{zip2};
 
-use crate::OutOfMemory;
+use crate::NoRoom;
 use crate::lanes::{
     complement_words, copy_words, join_words, meet_words, minus_words, part_words, put_value,
 };
@@ -35,8 +36,8 @@ impl Drop for Held {
 
 impl Held {
     /// `n` values, all false.
-    pub fn zeros(alloc: Global, n: usize) -> Result<Held, OutOfMemory>
-        requires { n ≤ 8192 }
+    pub fn zeros(alloc: Global, n: usize) -> Result<Held, NoRoom>
+        requires { n ≤ most_values }
         ensures len { IfOk result (λ h. len_of h ≡ n) }
         ensures words { IfOk result (λ h. words_of h ≡ replicate (room n) 0) }
     {
@@ -48,7 +49,7 @@ impl Held {
         Ok(Held::Many { len, words })
     }
 
-    pub fn copy(&self, alloc: Global) -> Result<Held, OutOfMemory>
+    pub fn copy(&self, alloc: Global) -> Result<Held, NoRoom>
         ensures len { IfOk result (λ h. len_of h ≡ len_of self.now) }
         ensures words { IfOk result (λ h. words_of h ≡ words_of self.now) }
     {

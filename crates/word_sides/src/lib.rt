@@ -10,10 +10,10 @@ pub use words::Words;
 
 /// Memory ran out.
 #[derive(Clone, Copy, Debug, PartialEq, Eq)]
-pub struct OutOfMemory;
+pub struct NoRoom;
 
-impl From<AllocError> for OutOfMemory {
-    fn from(_e: AllocError) -> OutOfMemory {
-        OutOfMemory
+impl From<AllocError> for NoRoom {
+    fn from(_e: AllocError) -> NoRoom {
+        NoRoom
     }
 }

@@ -1,8 +1,9 @@
 ghost use Rattle.std.specs.Prelude.{◌≡◌, ◌<◌, ◌≤◌, ◌+◌, ◌*◌, ◌↔◌, ◌&&◌, ◌||◌, not, ℕ, Bool, All, length, replicate, map, true, false, IsTrue, IfOk, slice_set, slice_index_or, count_by};
 ghost use Rattle.word_sides.specs.Words.{bit};
+ghost use Rattle.word_sides.specs.Limits.{most_values};
 ghost use lib.Lanes.{zip2};
 
-use crate::OutOfMemory;
+use crate::NoRoom;
 use crate::held::Held;
 use crate::lanes::{are_zero, count_ones, same_words};
 use std::alloc::Global;
@@ -28,15 +29,16 @@ impl Model for Words {
 
 impl Words {
     /// `n` values, all false.
-    pub fn empty(alloc: Global, n: usize) -> Result<Words, OutOfMemory>
-        requires { n ≤ 8192 }
+    pub fn empty(alloc: Global, n: usize) -> Result<Words, NoRoom>
+        requires { n ≤ most_values }
         ensures { IfOk result (λ s. s ≡ replicate n false) }
     {
         let held = Held::zeros(alloc, n)?;
         Ok(Words { held })
     }
 
-    pub fn copy(&self, alloc: Global) -> Result<Words, OutOfMemory>
+    /// An equal list.
+    pub fn copy(&self, alloc: Global) -> Result<Words, NoRoom>
         ensures { IfOk result (λ s. s ≡ self.now) }
     {
         let held = self.held.copy(alloc)?;
@@ -78,6 +80,7 @@ impl Words {
         self.len() == other.len() && same_words(self.held.words(), other.held.words())
     }
 
+    /// Value `v`, from 0.
     pub fn has(&self, v: u32) -> bool
         requires { v < length self.now }
         ensures { result ≡ slice_index_or self.now v false }
@@ -85,6 +88,7 @@ impl Words {
         (self.held.words()[(v / 64) as usize] >> (v % 64)) & 1 == 1
     }
 
+    /// Makes value `v` another.
     pub fn put(&mut self, v: u32, on: bool)
         requires { v < length self.old }
         ensures { self.new ≡ slice_set self.old v on }

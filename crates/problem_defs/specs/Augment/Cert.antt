@@ -9,7 +9,7 @@ use Rattle.graph_core.specs.Lines.{degree}
 use Rattle.graph_core.proofs.FamilyLaws.{length-partition}
 use Rattle.problem_defs.specs.Ask.{misfit_of, KIsInRange}
 use Rattle.problem_defs.specs.Augment.{Suits, IsFeasible, IsDual, bound}
-use Rattle.problem_defs.specs.Augment.Law.{few_members}
+use Rattle.problem_defs.specs.Augment.Law.{few_members, two_or_more}
 use Rattle.problem_defs.specs.Ceil.{div_ceil-le}
 use Rattle.problem_defs.specs.Meets.{Meets}
 use Rattle.problem_defs.specs.NewLines.{new-nodes, few_new}
@@ -37,9 +37,6 @@ long_and_few g k P graph low high dual =
             rw more (omega (arith, div_ceil-le lack 2 lack (omega arith) (omega arith), most)),
           )
     ]
-  where
-    two_or_more : (j : ℕ) → 1 ≤ j → (j ≡ 1 → ⊥) → 2 ≤ j
-    two_or_more j low ne = omega arith
 
 pub augment-meets : (g : GraphValue) (k : ℕ) (pairs : List (ℕ × ℕ)) (P : List (List Bool)) → IsGraph g → KIsInRange (Augment k) → misfit_of g (Augment k) ≡ None → IsFeasible k g pairs → IsDual k g P → length pairs ≡ bound k g P
     → Meets g (record { ask = Augment k; body = Edges (length pairs) pairs P })

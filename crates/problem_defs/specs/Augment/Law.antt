@@ -40,6 +40,9 @@ split_law g pairs (X ∷ B) ok f d =
     let classes : length B ≤ between (X ∷ B) all = classes-le (length g.names) all fit f.connected (length B) X B refl d.partition in
     omega (arith, classes, d.apart, sum_by-append (λ l. weight (parted (X ∷ B) l)) g.lines new, count_by-le-length (parted (X ∷ B)) new, length-map pairs line_of)
 
+pub two_or_more : (j : ℕ) → 1 ≤ j → (j ≡ 1 → ⊥) → 2 ≤ j
+two_or_more j low ne = omega arith
+
 pub law : (k : ℕ) (g : GraphValue) (pairs : List (ℕ × ℕ)) (P : List (List Bool)) → IsGraph g → Suits k g → IsFeasible k g pairs → IsDual k g P → bound k g P ≤ length pairs
 law k g pairs P ok u f d =
     let low = u.low in
@@ -47,6 +50,3 @@ law k g pairs P ok u f d =
       | inl one ↦ (let e : k ≡ 1 = eqb-true k 1 one in rw one (split_law g pairs P ok (subst (λ j. IsFeasible j g pairs) e f) (d.1 e)))
       | inr more ↦ rw more (half_law k g pairs P f (d.0 (let ne = eqb-false k 1 more in two_or_more k low ne)))
     ]
-  where
-    two_or_more : (j : ℕ) → 1 ≤ j → (j ≡ 1 → ⊥) → 2 ≤ j
-    two_or_more j low ne = omega arith

@@ -1,4 +1,4 @@
--- A certified dijoin, or a side that forbids each, is a certificate that meets its graph.
+-- A certified dijoin is a certificate that meets its graph.
 use Rattle.std.proofs.Common.{ℕ, ◌≡◌, ◌<◌, ◌≤◌, ◌^◌, List, Bool, length, None, refl, arith, lit<}
 use Rattle.std.proofs.lemmas.List.Elements.{All-weaker}
 use Rattle.std.proofs.lemmas.List.Sums.{sum_by-le}
@@ -8,11 +8,11 @@ use Rattle.graph_core.specs.Picked.{picked, IsDistinct}
 use Rattle.graph_core.proofs.Counting.{All-picked}
 use Rattle.graph_core.proofs.PickedLaws.{length-picked-le}
 use Rattle.problem_defs.specs.Ask.{misfit_of}
-use Rattle.problem_defs.specs.Dijoin.{Suits, IsClosed, IsFeasible, IsDual, Forbids, cost}
+use Rattle.problem_defs.specs.Dijoin.{Suits, IsClosed, IsFeasible, IsDual, cost}
 use Rattle.problem_defs.specs.Meets.{Meets}
 use Rattle.problem_defs.specs.Suited.{directed-of}
 use Rattle.problem_defs.specs.declared.ask.Ask.TheVariants.{Dijoin}
-use Rattle.problem_defs.specs.declared.cert.Body.TheVariants.{Join, Never}
+use Rattle.problem_defs.specs.declared.cert.Body.TheVariants.{Join}
 
 small : 6553600 < 2 ^ 64
 small = lit< tt
@@ -39,12 +39,4 @@ dijoin-meets g join sides graph suits feasible dual equal = record {
   object = feasible;
   dual = dual;
   value = (refl, equal);
-}
-
-pub never_dijoin-meets : (g : GraphValue) (side : List Bool) → misfit_of g Dijoin ≡ None → Forbids g side → Meets g (record { ask = Dijoin; body = Never side })
-never_dijoin-meets g side suits forbids = record {
-  shaped = record { k = tt; suits = suits; belongs = tt; in_range = forbids.closed.proper.long; numbers_fit = tt };
-  object = tt;
-  dual = forbids;
-  value = tt;
 }

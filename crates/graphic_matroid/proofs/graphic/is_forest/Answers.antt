@@ -2,7 +2,6 @@ use Rattle.std.proofs.Common.{◌≡◌, ◌+◌, ◌<◌, length, get_or, take,
 use Rattle.std.proofs.lemmas.Bool.{false≢true, both_ways}
 use Rattle.std.proofs.lemmas.Option.{get_or_from_slice_get}
 use Rattle.graph_core.specs.Trees.{IsAcyclic}
-use Rattle.graph_core.specs.declared.graph.Line.{Line}
 use Rattle.graphic_matroid.specs.Chosen.{chosen}
 use Rattle.graphic_matroid.specs.Roots.{AreRoots, AreClasses}
 use Rattle.graphic_matroid.specs.ForestLaws.{forest_front, take_with}

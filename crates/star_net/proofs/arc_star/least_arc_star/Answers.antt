@@ -19,5 +19,5 @@ invariant_of-star c =
 pub balance-requires-clause-tight : goal.balance-requires-clause-tight
 balance-requires-clause-tight c = lowered_tight Entering c.in_ok-copy.ensures c.from_vec.ensures c.in_ok-into.ensures
 
-pub balance-requires-else-total-clause-tight : goal.balance-requires-else-total-clause-tight
-balance-requires-else-total-clause-tight c = lowered_tight Leaving c.in_ok-copy.ensures c.from_vec-2.ensures c.in_ok-out.ensures
+pub balance-requires-else-total_count-clause-tight : goal.balance-requires-else-total_count-clause-tight
+balance-requires-else-total_count-clause-tight c = lowered_tight Leaving c.in_ok-copy.ensures c.from_vec-2.ensures c.in_ok-out.ensures
