@@ -430,7 +430,7 @@ const ORIENTED: [Row<'static>; 16] = [
     ),
 ];
 
-const CHANGED: [Row<'static>; 14] = [
+const CHANGED: [Row<'static>; 20] = [
     // As it was answered, and with the paths exchanged.
     (
         SQUARE,
@@ -513,6 +513,46 @@ const CHANGED: [Row<'static>; 14] = [
         SQUARE,
         b"certificate 1\ncommand flow a d\nvalue 18446744073709551615\npath 3 4\npath 1 2\ndual cut\nset a\nend\n",
         b"rejected gap\n",
+        2,
+    ),
+    // The first arc doesn't enter {x, y}, which no arc leaves.
+    (
+        INTO_ONE,
+        b"certificate 1\ncommand dijoin\nvalue 1\njoin 1\ndual dicuts\nset x y\nend\n",
+        b"rejected infeasible\n",
+        2,
+    ),
+    // A fixed arc in a dijoin.
+    (
+        b"graph directed\nnode a\nnode b\narc a b fixed\narc a b\nend\n",
+        b"certificate 1\ncommand dijoin\nvalue 1\njoin 1\ndual dicuts\nset b\nend\n",
+        b"rejected infeasible\n",
+        2,
+    ),
+    // An arc leaves {x}, the first set or the second.
+    (
+        INTO_ONE,
+        b"certificate 1\ncommand dijoin\nvalue 2\njoin 1 2\ndual dicuts\nset x\nset y z\nend\n",
+        b"rejected dual\n",
+        2,
+    ),
+    (
+        INTO_ONE,
+        b"certificate 1\ncommand dijoin\nvalue 2\njoin 1 2\ndual dicuts\nset y z\nset x\nend\n",
+        b"rejected dual\n",
+        2,
+    ),
+    // An arc that costs nothing enters a set.
+    (
+        b"graph directed\nnode x\nnode y\nnode z\narc x y cost 0\narc z y\nend\n",
+        b"certificate 1\ncommand dijoin\nvalue 1\njoin 1 2\ndual dicuts\nset y\nend\n",
+        b"rejected dual\n",
+        2,
+    ),
+    (
+        b"graph directed\nnode a\nnode b\narc a b cost 0\nend\n",
+        b"certificate 1\ncommand dijoin\nimpossible\ndual dicut\nset b\nend\n",
+        b"rejected dual\n",
         2,
     ),
     // An edge that doesn't help.
