@@ -1,6 +1,5 @@
 ghost use Rattle.std.specs.Prelude.{◌≡◌, ◌^◌, ℕ, ◌<◌, length, replicate, IfOk, OnOk, IfSome, Some, None, true, false, []};
 ghost use Rattle.graph_core.specs.Side.{has};
-ghost use Rattle.matroid_union.specs.Matroid.{IsAlike};
 ghost use Rattle.matroid_union.specs.Growing.{AreKept, AreFilled};
 ghost use Rattle.matroid_union.specs.Parts.{own_of, part, rows_of, IsPacking};
 ghost use Rattle.matroid_union.specs.Search.{AreDead};
@@ -26,7 +25,7 @@ pub struct FreeParts {
 /// The most elements in `k` disjoint free sets (Edmonds 1968), by shortest exchange paths.
 pub fn union<M: Matroid>(alloc: Global, matroid: &mut M, k: u32) -> Result<FreeParts, NoMemory>
     requires { M.count matroid.old < 2 ^ 32 }
-    ensures same { IsAlike (M.count matroid.old) (M.free matroid.old) (M.count matroid.new) (M.free matroid.new) }
+    ensures same { matroid.new ≡ matroid.old }
     ensures union { IfOk result (λ r. IsUnion (M.count matroid.old) (M.free matroid.old) k r.parts r.reached) }
 {
     let mut owner = no_owners(alloc, matroid.size())?;
