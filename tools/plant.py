@@ -88,10 +88,11 @@ def link_kept(one, other):
 
 
 def copy_repository(room):
-    """A copy without the must-fail edits. Checks in it begin with what others here kept."""
+    """A copy without the must-fail edits, and without the trees in which crates are being proved side by side. Checks in it
+    begin with what others here kept."""
     for name in ["crates.txt", "HANDLES"]:
         shutil.copy(ROOT / name, room / name)
-    shutil.copytree(ROOT / "crates", room / "crates", ignore=shutil.ignore_patterns("must-fail"), copy_function=link_kept)
+    shutil.copytree(ROOT / "crates", room / "crates", ignore=shutil.ignore_patterns("must-fail", "work"), copy_function=link_kept)
 
 
 def rt(folder, words, jobs):
