@@ -4,18 +4,19 @@ use Rattle.std.proofs.Common.{sym, ap, ◌∙◌, inl, inr, arith}
 use Rattle.std.proofs.lemmas.Bool.{cases_eq, cases_lt}
 use Rattle.std.proofs.lemmas.List.{length-append, get_or-set_same, get_or-set_other, get_or_past}
 use Rattle.std.proofs.lemmas.List.Elements.{All-append, All-weaker}
+use Rattle.graph_core.specs.Limits.{side_room}
 use Rattle.graph_core.specs.Side.{has, IsOnly}
 use Rattle.cut_fn.specs.TwoSides.{IsWithin}
-use Rattle.flow_cuts.specs.Cuts.{IsLeastCapacity, IsLeastCut, IsSmallestCut, IsLargestCut}
+use Rattle.flow_cuts.specs.Cuts.{IsLeastCapacity, IsMinimumCut, IsSmallestCut, IsLargestCut}
 use Rattle.flow_cuts.specs.LeastMissing.{HasMissing, IsLeastMissing}
-use Rattle.flow_cuts.specs.Network.{Separates, capacity}
+use Rattle.flow_cuts.specs.Network.{Separates, arc_room, capacity}
 use Rattle.flow_cuts.specs.NewNode.{count_arcs, with_new_node, value_with, AreArcs}
 use Rattle.flow_cuts.specs.StarRun.{AreRunSides}
 use Rattle.flow_cuts.specs.declared.network.Cap.{Cap}
 use Rattle.flow_cuts.proofs.NewNodes.{length-count_arcs, ends-count_arcs, capacity-new_node, has-narrow, has-more}
 
-module _ {arcs : List Cap} (counts : List ℕ) (a : AreArcs (length counts) arcs) (nodes : length counts ≤ 8191) where
-  pub few_arcs : length (with_new_node arcs counts) ≤ 16777216
+module _ {arcs : List Cap} (counts : List ℕ) (a : AreArcs (length counts) arcs) (nodes : length counts < side_room) where
+  pub few_arcs : length (with_new_node arcs counts) ≤ arc_room
   few_arcs = omega (arith, length-append arcs (count_arcs (length counts) 0 counts), length-count_arcs (length counts) 0 counts, a.few)
 
   pub new_ends : All (λ arc. (arc.tail < length counts + 1) × (arc.head < length counts + 1)) (with_new_node arcs counts)
@@ -78,15 +79,15 @@ module _ (arcs : List Cap) (counts : List ℕ) {H I O : List Bool} {w : ℕ} (s 
 
     -- a side of least value is a least cut
     cut_of : (Y : List Bool) → HasMissing (length counts) (value_with arcs (slice_index counts)) H w answer Y
-        → IsLeastCut (length counts + 1) I O (with_new_node arcs counts) answer (Y ++ false ∷ [])
+        → IsMinimumCut (length counts + 1) I O (with_new_node arcs counts) answer (Y ++ false ∷ [])
     cut_of Y y = record { separates = separated Y y.long y.holds y.misses; value_is = value_wide Y y.long ∙ y.value_is; least = least.least }
 
     module _ {Z : List Bool} (X : List Bool) (long : length X ≡ length counts) (first : (v : ℕ) → v < length counts → has X v ≡ has Z v) where
-      same_nodes : IsLeastCut (length counts + 1) I O (with_new_node arcs counts) answer Z → (v : ℕ) → has Z v ≡ has X v
+      same_nodes : IsMinimumCut (length counts + 1) I O (with_new_node arcs counts) answer Z → (v : ℕ) → has Z v ≡ has X v
       same_nodes cut = has-narrow (length counts) Z X cut.separates.long long (cut.separates.misses (length counts) s.last) first
 
       -- a least cut without the new node is a side of least value
-      pub narrowed : IsLeastCut (length counts + 1) I O (with_new_node arcs counts) answer Z → HasMissing (length counts) (value_with arcs (slice_index counts)) H w answer X
+      pub narrowed : IsMinimumCut (length counts + 1) I O (with_new_node arcs counts) answer Z → HasMissing (length counts) (value_with arcs (slice_index counts)) H w answer X
       narrowed cut =
           let same = same_nodes cut in
           record {

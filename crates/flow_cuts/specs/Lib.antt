@@ -2,6 +2,7 @@ pub mod Cuts
 pub mod Flow
 pub mod GraphArcs
 pub mod LeastMissing
+pub mod LeastOver
 pub mod LinkWalks
 pub mod Network
 pub mod NewNode

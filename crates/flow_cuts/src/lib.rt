@@ -23,5 +23,5 @@ pub use flow::Flow;
 pub use law::{capacity_is_the_cut, least_cuts_meet_and_join};
 pub use network::Cap;
 pub use node_cuts::NodeCuts;
-pub use sparse::sparse_side;
+pub use sparse::{is_parted, sparse_side};
 pub use star_flow::StarFlow;

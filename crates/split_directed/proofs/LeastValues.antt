@@ -12,7 +12,7 @@ use Rattle.cut_fn.specs.TwoSides.{IsWithin}
 use Rattle.flow_cuts.specs.LeastMissing.{HasMissing, IsLeastMissing}
 use Rattle.split_directed.specs.declared.half.Half.{Half}
 use Rattle.split_directed.specs.Half.{value}
-use Rattle.split_directed.specs.Least.{HasBoth, IsLeastOver}
+use Rattle.flow_cuts.specs.LeastOver.{HasBoth, IsLeastOver}
 
 -- the search over missed nodes: the nodes below w with a count are held, and so is H by each side of a value below the answer
 pub record IsSearched (n : ℕ) (f : List Bool → ℕ) (counts : List ℕ) (u t stop w answer : ℕ) (H X : List Bool) : Type 0 where

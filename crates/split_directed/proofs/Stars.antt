@@ -12,7 +12,8 @@ use Rattle.problem_defs.specs.Ways.{opposite}
 use Rattle.split_directed.specs.Ways.{same, counts_for, value_for, taken_in}
 use Rattle.split_directed.specs.Allowed.{Allows, IsMost}
 use Rattle.cut_fn.specs.Stars.{StarValue, star_enter, star_leave}
-use Rattle.split_directed.specs.Least.{HasBoth, MissesCount}
+use Rattle.flow_cuts.specs.LeastOver.{HasBoth}
+use Rattle.split_directed.specs.Least.{MissesCount}
 use Rattle.split_directed.specs.State.{IsCoveredStar}
 use Rattle.split_directed.specs.Turn.{IsFewest, IsMostUpTo, IsWitness, IsLeft}
 use Rattle.graph_core.proofs.NodeCounts.{some_outside}

@@ -1,6 +1,7 @@
 ghost use Rattle.std.specs.Prelude.{◌≡◌, ◌<◌, ◌≤◌, length, IfOk};
+ghost use Rattle.flow_cuts.specs.LeastOver.{IsLeastOver};
 ghost use Rattle.split_directed.specs.Half.{value, IsHalf};
-ghost use Rattle.split_directed.specs.Least.{IsLeastOver, MissesCount};
+ghost use Rattle.split_directed.specs.Least.{MissesCount};
 
 use crate::half::Half;
 use cut_fn::total_count;

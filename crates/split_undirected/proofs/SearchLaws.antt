@@ -13,7 +13,7 @@ use Rattle.cut_fn.specs.TwoSides.{IsWithin}
 use Rattle.flow_cuts.specs.LeastMissing.{IsLeastMissing}
 use Rattle.flow_cuts.specs.declared.network.Cap.{Cap}
 use Rattle.split_undirected.specs.CoveredStar.{total, room, IsCoveredStar}
-use Rattle.split_undirected.specs.Network.{net_value, IsStarNet, IsSideOver, IsLeastOver}
+use Rattle.split_undirected.specs.Network.{net_value, IsStarNet}
 use Rattle.split_undirected.specs.Search.{IsSearch}
 use Rattle.split_undirected.proofs.StarLaws.{is_covered_star, same_covered_star, half}
 use Rattle.split_undirected.proofs.Candidates.{room-le-total}
@@ -104,9 +104,9 @@ module _ {n k : ℕ} {f : List Bool → ℕ} {w : ℕ → ℕ} {u v : ℕ} where
                 proper = is_proper Z' u x r.long (r.holds.at u s.first) l r.misses;
                 first = r.holds.at u s.first;
                 second = r.holds.at v s.second;
-                value = r.value_is;
+                value_is = r.value_is;
               })
-          | inr more ↦ (let same : least ≡ found = omega (arith, looked.stopped) in subst (λ Y. IsSideOver n f u v found Y) (sym (kept more)) (subst (λ a. IsSideOver n f u v a Z) same (s.reached (omega arith))))
+          | inr more ↦ (let same : least ≡ found = omega (arith, looked.stopped) in subst (λ Y. HasBoth n f u v found Y) (sym (kept more)) (subst (λ a. HasBoth n f u v a Z) same (s.reached (omega arith))))
         ];
     done = elim s.done [
       | inl heavy ↦ absurd (omega arith)
@@ -156,7 +156,7 @@ least_at_once {n} {f} {w} {u} {v} counted {H} pair stop a Z many looked = record
               proper = is_proper Z u x r.long (r.holds.at u pair.first) (omega (arith, r.long)) out;
               first = r.holds.at u pair.first;
               second = r.holds.at v pair.second;
-              value = r.value_is;
+              value_is = r.value_is;
             })
         | inr full ↦ (let each = all_there Z (omega arith) in
             absurd (omega (arith, counted Z, r.value_is, nodes_within w (replicate n true) Z (λ y in'. each y (omega (arith, whole-below n y in', r.long))))))

@@ -29,19 +29,6 @@ pub record IsStarNet (n k : ℕ) (ls : List Line) (arcs : List Cap) (counts : Li
   pub same : (X : List Bool) → capacity X arcs ≡ degree X ls
   pub covered : IsCovered n k (star_value ls (slice_index counts))
 
--- a proper side with u and v of the value a
-pub record IsSideOver (n : ℕ) (f : List Bool → ℕ) (u v a : ℕ) (Z : List Bool) : Type 0 where
-  pub proper : IsProper n Z
-  pub first : has Z u ≡ true
-  pub second : has Z v ≡ true
-  pub value : f Z ≡ a
-
--- a is the smaller of stop and the least value of a proper side with u and v; below stop, Z is such a side
-pub record IsLeastOver (n : ℕ) (f : List Bool → ℕ) (u v stop a : ℕ) (Z : List Bool) : Type 0 where
-  pub stopped : a ≤ stop
-  pub least : (X : List Bool) → IsProper n X → has X u ≡ true → has X v ≡ true → a ≤ f X
-  pub reached : a < stop → IsSideOver n f u v a Z
-
 -- a proper side with u and v of too small a value for more than q pairs
 pub record IsBlock (n k : ℕ) (f : List Bool → ℕ) (u v q : ℕ) (Z : List Bool) : Type 0 where
   pub proper : IsProper n Z

@@ -2,8 +2,8 @@
 use Rattle.std.specs.Prelude.{ℕ, ◌≡◌, ◌+◌, ◌*◌, ◌<◌, ◌≤◌, ◌⊎◌, Bool, true, List, length}
 use Rattle.graph_core.specs.Side.{has, sum_over, IsProper}
 use Rattle.cut_fn.specs.TwoSides.{IsWithin}
+use Rattle.flow_cuts.specs.LeastOver.{HasBoth}
 use Rattle.split_undirected.specs.CoveredStar.{total}
-use Rattle.split_undirected.specs.Network.{IsSideOver}
 
 -- Before node x: no side with a value below least misses a node that is held. Each node below x with an edge is held, unless the sides that hold so much have no value below least.
 pub record IsSearch (n k : ℕ) (f : List Bool → ℕ) (w : ℕ → ℕ) (u v stop : ℕ) (held : List Bool) (x least : ℕ) (Z : List Bool) : Type 0 where
@@ -12,5 +12,5 @@ pub record IsSearch (n k : ℕ) (f : List Bool → ℕ) (w : ℕ → ℕ) (u v s
   pub second : has held v ≡ true
   pub stopped : least ≤ stop
   pub within : (X : List Bool) → IsProper n X → has X u ≡ true → has X v ≡ true → f X < least → IsWithin held X
-  pub reached : least < stop → IsSideOver n f u v least Z
+  pub reached : least < stop → HasBoth n f u v least Z
   pub done : (total n w + least ≤ 2 * sum_over held w + k) ⊎ ((y : ℕ) → y < x → 1 ≤ w y → has held y ≡ true)

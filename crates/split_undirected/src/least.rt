@@ -1,8 +1,9 @@
 ghost use Rattle.std.specs.Prelude.{◌≡◌, ◌<◌, ◌≤◌, ◌+◌, ◌*◌, ◌^◌, ℕ, List, length, sum, slice_index, IfOk};
 ghost use Rattle.graph_core.specs.Limits.{line_room};
 ghost use Rattle.graph_core.specs.declared.graph.Line.{Line as LineOf};
+ghost use Rattle.flow_cuts.specs.LeastOver.{IsLeastOver};
 ghost use Rattle.split_undirected.specs.CoveredStar.{room};
-ghost use Rattle.split_undirected.specs.Network.{net_value, IsStarNet, IsLeastOver};
+ghost use Rattle.split_undirected.specs.Network.{net_value, IsStarNet};
 ghost use Rattle.split_undirected.specs.Search.{IsSearch};
 
 use crate::rest::Rest;
