@@ -12,7 +12,7 @@ use Rattle.graph_core.proofs.CutLaws.{degree-complement, other_out, other_in}
 use Rattle.graph_core.proofs.SideLaws.{has-complement}
 use Rattle.graph_core.specs.declared.graph.Line.{Line}
 use Rattle.nw_orientation.specs.Chosen.{chosen}
-use Rattle.nw_orientation.specs.Joined.{AreJoined, AreParted}
+use Rattle.nw_orientation.specs.Joined.{AreEdgeJoined, AreParted}
 use Rattle.nw_orientation.specs.Moved.{touches}
 use Rattle.nw_orientation.specs.Needed.{IsNeeded, HasBareEnd, IsLean, IsPrunedTo, AreNeeded}
 use Rattle.nw_orientation.proofs.ChosenLaws.{chosen-each, count-unmarked, All-chosen, All-marked}
@@ -55,7 +55,7 @@ module _ (n c : ℕ) (ls : List Line) (j : ℕ) (ms : List Bool) (d : Line) (pru
   less X = count-unmarked (crosses X) ls ms j d pruned.long lj here
 
   -- it is spared where its ends are still joined
-  pub pruned_less : AreJoined n (chosen true ls (slice_set ms j false)) line.tail line.head c → IsPrunedTo n c ls (j + 1) (slice_set ms j false)
+  pub pruned_less : AreEdgeJoined n (chosen true ls (slice_set ms j false)) line.tail line.head c → IsPrunedTo n c ls (j + 1) (slice_set ms j false)
   pruned_less joined =
       let conn : IsEdgeConnected c n (chosen true ls (slice_set ms j false)) = λ X p.
       elim (cases_Bool (crosses X line)) [
@@ -89,9 +89,9 @@ module _ (n c : ℕ) (ls : List Line) (j : ℕ) (ms : List Bool) (d : Line) (pru
   -- and kept where they aren't
   pub pruned_kept : AreParted n (chosen true ls (slice_set ms j false)) line.tail line.head c → IsPrunedTo n c ls (j + 1) ms
   pruned_kept (X, s) =
-      let proper = is_proper X line.tail line.head s.long s.holds fits.head s.misses in
+      let proper = s.cut.proper in
       let crossed : crosses X line ≡ true = rw (s.holds, s.misses) refl in
-      let need : IsNeeded n c (chosen true ls ms) line = record { side = X; tight = record { proper = proper; value = omega (arith, less X, ap weight crossed, s.few, pruned.connected X proper) }; crossed = crossed } in
+      let need : IsNeeded n c (chosen true ls ms) line = record { side = X; tight = record { proper = proper; value = omega (arith, less X, ap weight crossed, s.cut.few, pruned.connected X proper) }; crossed = crossed } in
       record {
         long = pruned.long;
         connected = pruned.connected;

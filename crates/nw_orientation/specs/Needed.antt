@@ -24,6 +24,11 @@ pub record HasBareEnd (c : ℕ) (ls : List Line) (l : Line) : Type 0 where
   pub touching : touches node l ≡ true
   pub few : count_by (touches node) ls ≤ c
 
+-- both ends of the line have more than c lines
+pub record HasSpareEnds (c : ℕ) (ls : List Line) (l : Line) : Type 0 where
+  pub tail : c < count_by (touches l.tail) ls
+  pub head : c < count_by (touches l.head) ls
+
 -- c-edge-connected lines, none of which can be deleted
 pub record IsLean (n c : ℕ) (ls : List Line) : Type 0 where
   pub connected : IsEdgeConnected c n ls
