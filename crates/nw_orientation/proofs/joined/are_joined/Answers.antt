@@ -1,8 +1,7 @@
-use Rattle.std.proofs.Common.{◌≡◌, ◌<◌, length, sym, ap, ◌∙◌, arith, subst, List, All}
+use Rattle.std.proofs.Common.{◌<◌, length, sym, ap, ◌∙◌, arith, subst, List, All}
 use Rattle.std.proofs.lemmas.Bool.{not-true, not-false}
 use Rattle.graph_core.specs.declared.graph.Kind.TheVariants.{Undirected}
 use Rattle.flow_cuts.specs.GraphArcs.{arcs_of}
-use Rattle.flow_cuts.specs.Flow.{FlowValue}
 use Rattle.flow_cuts.specs.Sparse.{AreJoined, IsSparseBetween}
 use Rattle.flow_cuts.specs.declared.network.Cap.{Cap}
 use Rattle.flow_cuts.proofs.NewNodes.{edges_are_arcs}
