@@ -1,6 +1,5 @@
 ghost use Rattle.std.specs.Prelude.{◌≡◌, ◌<◌, ◌≤◌, ◌^◌, length, true, false, All, IfOk};
 ghost use Rattle.graph_core.specs.Limits.{node_room, side_room};
-ghost use Rattle.graph_core.specs.Graph.{IsWithinSize};
 ghost use Rattle.flow_cuts.specs.Network.{arc_room};
 ghost use Rattle.edmonds_branchings.specs.Network.{network_of, AreEnds};
 ghost use Rattle.edmonds_branchings.specs.Round.{IsFree, IsBlocked};

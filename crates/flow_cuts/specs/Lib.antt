@@ -14,4 +14,5 @@ pub mod Search
 pub mod Sound
 pub mod Sparse
 pub mod StarRun
+pub mod StarValues
 pub mod Streams

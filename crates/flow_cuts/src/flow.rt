@@ -1,4 +1,4 @@
-ghost use Rattle.std.specs.Prelude.{◌≡◌, ℕ, ◌+◌, ◌<◌, ◌≤◌, ◌^◌, length, Some, None, IfOk, map, vec_len, All};
+ghost use Rattle.std.specs.Prelude.{◌≡◌, ℕ, ◌<◌, ◌≤◌, ◌^◌, length, Some, None, IfOk, map, vec_len, All};
 ghost use Rattle.flow_cuts.specs.Cuts.{IsLeastCapacity, IsSmallestCut, IsLargestCut};
 ghost use Rattle.flow_cuts.specs.Flow.{Origin, Run, FellShort, RunsBetween, AreWalks};
 ghost use Rattle.flow_cuts.specs.GraphArcs.{arcs_of};

@@ -1,4 +1,4 @@
-ghost use Rattle.std.specs.Prelude.{◌≡◌, ◌+◌, ◌<◌, ◌≤◌, ◌^◌, ℕ, Bool, List, length, slice_index, All, Some, IfOk};
+ghost use Rattle.std.specs.Prelude.{◌≡◌, ◌+◌, ◌<◌, ◌≤◌, ◌^◌, ℕ, Bool, List, length, All, Some, IfOk};
 ghost use Rattle.graph_core.specs.Limits.{side_room};
 ghost use Rattle.graph_core.specs.Side.{has};
 ghost use Rattle.cut_fn.specs.TwoSides.{IsWithin};
@@ -93,8 +93,8 @@ impl<'a> StarFlow<'a> {
         ensures counts { self.new.counts.now ≡ self.old.counts.now }
         ensures long { length into.new ≡ length into.old }
         ensures kept { stop ≤ result → into.new ≡ into.old }
-        ensures least { IsLeastMissing (length self.old.counts.now) (value_with self.old.arcs.now (slice_index self.old.counts.now)) held.now missed stop result into.new }
-        ensures smallest { result < stop → (X : List Bool) → HasMissing (length self.old.counts.now) (value_with self.old.arcs.now (slice_index self.old.counts.now)) held.now missed result X → IsWithin into.new X }
+        ensures least { IsLeastMissing (length self.old.counts.now) (value_with self.old.arcs.now self.old.counts.now) held.now missed stop result into.new }
+        ensures smallest { result < stop → (X : List Bool) → HasMissing (length self.old.counts.now) (value_with self.old.arcs.now self.old.counts.now) held.now missed result X → IsWithin into.new X }
     {
         let answer = self.run(held, missed, stop);
         if answer < stop {
@@ -113,8 +113,8 @@ impl<'a> StarFlow<'a> {
         ensures counts { self.new.counts.now ≡ self.old.counts.now }
         ensures long { length into.new ≡ length into.old }
         ensures kept { stop ≤ result → into.new ≡ into.old }
-        ensures least { IsLeastMissing (length self.old.counts.now) (value_with self.old.arcs.now (slice_index self.old.counts.now)) held.now missed stop result into.new }
-        ensures largest { result < stop → (X : List Bool) → HasMissing (length self.old.counts.now) (value_with self.old.arcs.now (slice_index self.old.counts.now)) held.now missed result X → IsWithin X into.new }
+        ensures least { IsLeastMissing (length self.old.counts.now) (value_with self.old.arcs.now self.old.counts.now) held.now missed stop result into.new }
+        ensures largest { result < stop → (X : List Bool) → HasMissing (length self.old.counts.now) (value_with self.old.arcs.now self.old.counts.now) held.now missed result X → IsWithin X into.new }
     {
         let answer = self.run(held, missed, stop);
         if answer < stop {

@@ -8,16 +8,11 @@ use Rattle.graph_core.specs.declared.graph.Line.{Line}
 use Rattle.cut_fn.specs.Covered.{IsCovered}
 use Rattle.flow_cuts.specs.declared.network.Cap.{Cap}
 use Rattle.flow_cuts.specs.Network.{capacity}
-use Rattle.flow_cuts.specs.NewNode.{value_with}
 use Rattle.split_undirected.specs.Rows.{star_value}
 
 -- q edges of u and v
 abbrev pub both_ways : ℕ → ℕ → ℕ → List Cap
 both_ways u v q = record { tail = u; head = v; cap = q } ∷ (record { tail = v; head = u; cap = q } ∷ [])
-
--- what leaves a side without the new node
-abbrev pub net_value : List Cap → List ℕ → List Bool → ℕ
-net_value arcs counts = value_with arcs (slice_index counts)
 
 -- arcs and counts are those of a k-covered star of n nodes with the lines ls, and they are few enough for a flow
 pub record IsStarNet (n k : ℕ) (ls : List Line) (arcs : List Cap) (counts : List ℕ) : Type 0 where
