@@ -15,8 +15,9 @@ use Rattle.problem_defs.specs.declared.cert.Way.{Way}
 use Rattle.problem_defs.specs.declared.cert.Way.TheVariants.{Entering, Leaving}
 use Rattle.split_directed.specs.Pairs.{AreHeadsTight, AreTailsTight, SplitInto}
 use Rattle.cut_fn.specs.Stars.{star_of}
-use Rattle.star_net.specs.TightArcStar.{counts_for, IsTightArcStar}
-use Rattle.star_net.specs.TightFamily.{with_counts, IsTightFamily}
+use Rattle.flow_cuts.specs.StarValues.{with_counts, counts_for}
+use Rattle.star_net.specs.TightArcStar.{IsTightArcStar}
+use Rattle.star_net.specs.TightFamily.{IsTightFamily}
 use Rattle.star_net.specs.declared.arc_star.TightArcStar.{TightArcStar}
 use Rattle.star_net.proofs.TightFamilies.{family_few}
 
@@ -24,17 +25,17 @@ use Rattle.star_net.proofs.TightFamilies.{family_few}
 pub own_graph : {k : ℕ} {g : GraphValue} {t : TightArcStar} → IsTightArcStar k g t → IsTightArcStar k t.star.graph t
 own_graph {k} {g} {t} least = subst (λ h. IsTightArcStar k h t) (sym least.graph) least
 
-counts_long : (way : Way) (s : ArcStar) → length (counts_for way s) ≡ length s.graph.names
+counts_long : (way : Way) (s : ArcStar) → length (counts_for way (star_of s)) ≡ length s.graph.names
 counts_long Entering s = s.into_long
 counts_long Leaving s = s.out_long
 
 -- either way the counts have one sum
-counts_sum : (way : Way) (s : ArcStar) → sum s.into ≡ sum s.out → sum (counts_for way s) ≡ sum s.into
+counts_sum : (way : Way) (s : ArcStar) → sum s.into ≡ sum s.out → sum (counts_for way (star_of s)) ≡ sum s.into
 counts_sum Entering s same = λ i. sum s.into
 counts_sum Leaving s same = sym same
 
 -- the nodes with a count of the family's way lie in its members
-ends_tight : (k : ℕ) (way : Way) (s : ArcStar) (P : List (List Bool)) → IsTightFamily (length s.graph.names) k (count_for way s.graph.lines) (counts_for way s) P
+ends_tight : (k : ℕ) (way : Way) (s : ArcStar) (P : List (List Bool)) → IsTightFamily (length s.graph.names) k (count_for way s.graph.lines) (counts_for way (star_of s)) P
     → AreHeadsTight (length s.graph.names) k (star_of s) ⊎ AreTailsTight (length s.graph.names) k (star_of s)
 ends_tight k Entering s P family = inl (λ v l some. tight_with P family.tight.each v (family.holds v some))
 ends_tight k Leaving s P family = inr (λ v l some. tight_with P family.tight.each v (family.holds v some))
@@ -61,4 +62,4 @@ module _ {k : ℕ} {t : TightArcStar} (least : IsTightArcStar k t.star.graph t) 
     split_equal =
         let h = count_for t.way t.star.graph.lines in
         split.many ∙ sym (counts_sum t.way t.star least.equal) ∙ least.family.lacks
-        ∙ lack-is k h t.family (All-weaker (IsTight (length t.star.graph.names) k (with_counts h (counts_for t.way t.star))) (λ X. h X ≤ k) (λ X x. let e = x.value in omega arith) t.family least.family.tight.each)
+        ∙ lack-is k h t.family (All-weaker (IsTight (length t.star.graph.names) k (with_counts h (counts_for t.way (star_of t.star)))) (λ X. h X ≤ k) (λ X x. let e = x.value in omega arith) t.family least.family.tight.each)

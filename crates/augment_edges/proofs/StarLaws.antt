@@ -7,25 +7,20 @@ use Rattle.graph_core.specs.Side.{sum_over, IsProper}
 use Rattle.graph_core.specs.Graph.{GraphValue, Fits, IsWithinSize, line_of, lines_of}
 use Rattle.graph_core.specs.Lines.{degree}
 use Rattle.graph_core.specs.Connected.{IsEdgeConnected}
-use Rattle.graph_core.proofs.Counting.{All-both, sum_by-add, sum_by-agree, sum_by-same}
+use Rattle.graph_core.proofs.Counting.{All-both, lack-is}
 use Rattle.cut_fn.specs.Covered.{IsTight}
 use Rattle.cut_fn.specs.Stars.{star_cut}
 use Rattle.cut_fn.specs.declared.stars.Star.{Star}
 use Rattle.cut_fn.proofs.Families.{tight_with}
+use Rattle.flow_cuts.specs.StarValues.{with_counts}
 use Rattle.problem_defs.specs.Augment.{IsFeasible, half_bound}
 use Rattle.split_undirected.specs.Split.{lines_after, CanBeSplit, AreInDangerous, IsSplit}
 use Rattle.split_undirected.proofs.PairLaws.{half_as_many, lines_after-all}
-use Rattle.star_net.specs.TightFamily.{with_counts}
 use Rattle.star_net.specs.TightStar.{IsTightStar}
 use Rattle.star_net.specs.declared.edge_star.TightStar.{TightStar}
 use Rattle.star_net.proofs.TightFamilies.{family_few}
 use Rattle.augment_edges.specs.Even.{IsMadeEven}
 use Rattle.augment_edges.proofs.EvenLaws.{made_even-sum}
-
--- what members lack of k each, of values up to k
-lacking : {X : Type 0} (k : ℕ) (h : X → ℕ) (xs : List X) → All (λ x. h x ≤ k) xs → sum_by (λ x. k - h x) xs + sum_by h xs ≡ k * length xs
-lacking k h xs small =
-    sym (sum_by-add (λ x. k - h x) h xs) ∙ sum_by-agree (λ x. (k - h x) + h x) (λ _. k) xs (All-weaker (λ x. h x ≤ k) (λ x. (k - h x) + h x ≡ k) (λ x l. omega arith) xs small) ∙ sum_by-same k xs
 
 -- few edges, so that one more is few too
 pub few_edges : {k : ℕ} {g : GraphValue} (t : TightStar) → IsTightStar k g t → k ≤ 32 → IsWithinSize g → sum t.star.count ≤ 4096
@@ -74,9 +69,9 @@ module _ {k : ℕ} {g : GraphValue} (t : TightStar) (tight : IsTightStar k g t) 
     pub split_meets_bound : length pairs ≡ half_bound k g t.family
     split_meets_bound =
         let h : List Bool → ℕ = λ X. degree X g.lines in
-        let lack : sum_by (λ X. k - h X) t.family + sum_by h t.family ≡ k * length t.family =
-        lacking k h t.family (All-weaker (IsTight (length g.names) k (with_counts h t.star.count)) (λ X. h X ≤ k) (λ X t. omega (arith, t.value)) t.family tight.family.tight.each) in
         let demand = k * length t.family - sum_by h t.family in
+        let lack : sum_by (λ X. k - h X) t.family ≡ demand =
+        lack-is k h t.family (All-weaker (IsTight (length g.names) k (with_counts h t.star.count)) (λ X. h X ≤ k) (λ X t. omega (arith, t.value)) t.family tight.family.tight.each) in
         let half = div_ceil_times demand 2 (omega arith) in
         let sums = made_even-sum t.star.count s.count made in
         omega (arith, half.0, half.1, half_as_many s pairs split, tight.family.lacks, sums.0, sums.1, made.even)

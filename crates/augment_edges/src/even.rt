@@ -1,4 +1,5 @@
 ghost use Rattle.std.specs.Prelude.{◌≡◌, ◌<◌, ◌≤◌, length, sum, slice_index};
+ghost use Rattle.graph_core.specs.Limits.{line_room};
 ghost use Rattle.augment_edges.specs.Even.{IsMadeEven};
 
 use cut_fn::{Star, total_count};
@@ -20,7 +21,7 @@ fn counted(counts: &Counts) -> usize
 
 /// Raises the count of a node with a count by one, where the sum is odd.
 fn make_even(counts: &mut Counts)
-    requires { sum counts.old ≤ 65535 }
+    requires { sum counts.old < line_room }
     ensures { IsMadeEven counts.old counts.new }
 {
     if total_count(counts.as_slice()) % 2 == 1 {
@@ -31,7 +32,7 @@ fn make_even(counts: &mut Counts)
 
 /// The star with one edge more, at a node that has one, where the number of its edges is odd.
 pub fn even_star(star: Star) -> Star
-    requires { sum star.count ≤ 65535 }
+    requires { sum star.count < line_room }
     ensures graph { result.graph ≡ star.graph }
     ensures counts { IsMadeEven star.count result.count }
 {

@@ -1,4 +1,4 @@
-ghost use Rattle.std.specs.Prelude.{◌≡◌, ◌<◌, ◌≤◌, ◌+◌, ℕ, length, true, All, slice_set, IfSome, IfNone};
+ghost use Rattle.std.specs.Prelude.{◌≡◌, ◌<◌, ◌≤◌, ℕ, length, true, All, slice_set, IfSome, IfNone};
 ghost use Rattle.graph_core.specs.Graph.{GraphValue, Fits};
 ghost use Rattle.graph_core.specs.Lines.{differ};
 ghost use Rattle.graph_core.specs.Side.{has};

@@ -1,4 +1,4 @@
-ghost use Rattle.std.specs.Prelude.{◌≡◌, ◌≢◌, ◌<◌, ◌≤◌, ◌+◌, ℕ, length};
+ghost use Rattle.std.specs.Prelude.{◌≡◌, ◌≢◌, ◌<◌, ℕ, length};
 ghost use Rattle.graph_core.specs.Pairs.{AreIn};
 ghost use Rattle.cut_trees.specs.Order.{IsOrdered, IsReached};
 ghost use Rattle.cut_trees.specs.Way.{IsCutAt, IsLeastOnWay};

@@ -2,6 +2,7 @@
 use Rattle.std.specs.Prelude.{ℕ, ◌≡◌, ◌↔◌, Bool, true, false, not, ◌&&◌, List, filter, IsTrue, MatchOption, Option, Some, None, All}
 use Rattle.std.specs.Option.{is_some}
 use Rattle.std.proofs.Common.{sym, ap, ◌∙◌, arith}
+use Rattle.std.proofs.lemmas.Bool.{not-false}
 use Rattle.std.proofs.lemmas.List.Elements.{All-weaker}
 use Rattle.graph_core.specs.Graph.{GraphValue}
 use Rattle.graph_core.specs.Lines.{enters, entering}
@@ -43,10 +44,7 @@ module _ (g : GraphValue) where
 
   -- it is told whether one of the arcs enters each closed side, by what was found
   pub covered-found : (arcs : List Line) (found : Option (List Bool)) (all : Bool) → MatchOption found (AreCovered g arcs) (IsUncovered g arcs) → is_some found ≡ not all → IsTrue all ↔ AreCovered g arcs
-  covered-found arcs None all h e = (λ _. h, λ _. flipped all e)
-    where
-      flipped : (b : Bool) → false ≡ not b → b ≡ true
-      flipped b h = grind arith
+  covered-found arcs None all h e = (λ _. h, λ _. not-false all (sym e))
   covered-found arcs (Some U) all un e = (
     λ is. absurd (let no : true ≡ false = e ∙ ap not is in cc),
     λ each. absurd (let some = each U un.closed in let none = un.none in omega arith),

@@ -22,7 +22,12 @@ fn push_along(arcs: &mut Vec<Cap>, lines: &[Line], cap: u32) -> Result<(), NoMem
 
 /// The network in which the capacity that leaves a side is the number of arcs that leave it, each taken `cap` times, and of
 /// those arcs of a list that enter it.
-pub fn network(alloc: Global, graph: &Graph, cap: u32, entering: &[Line]) -> Result<Flow, NoMemory>
+pub(crate) fn network(
+    alloc: Global,
+    graph: &Graph,
+    cap: u32,
+    entering: &[Line],
+) -> Result<Flow, NoMemory>
     requires { AreArcs graph.now entering.now }
     ensures nodes { IfOk result (λ flow. flow.nodes ≡ length graph.now.names) }
     ensures arcs { IfOk result (λ flow. flow.arcs ≡ arcs_with cap graph.now.lines entering.now) }

@@ -7,7 +7,7 @@ use std::marker::Model;
 
 /// For each node of a digraph the nodes that it reaches along arcs.
 #[derive(Drop)]
-pub struct Reach<'a> {
+pub(crate) struct Reach<'a> {
     graph: &'a Graph,
     rows: Sides,
 }
@@ -26,7 +26,7 @@ impl<'a> Model for Reach<'a> {
 
 impl<'a> Reach<'a> {
     /// Warshall's: a row that has a node takes in the row of that node, one node after another.
-    pub fn of(alloc: Global, graph: &'a Graph) -> Result<Reach<'a>, NoMemory>
+    pub(crate) fn of(alloc: Global, graph: &'a Graph) -> Result<Reach<'a>, NoMemory>
         ensures { IfOk result (λ reach. reach ≡ graph.now) }
     {
         graph.known();
@@ -38,7 +38,7 @@ impl<'a> Reach<'a> {
     }
 
     /// What the node reaches.
-    pub fn side(&self, v: u32) -> &Side
+    pub(crate) fn side(&self, v: u32) -> &Side
         requires { v < length self.now.names }
         ensures { IsReach self.now v result.now }
     {

@@ -7,7 +7,7 @@ use Rattle.graph_core.specs.Side.{has, complement, IsOnly, IsNonempty}
 use Rattle.graph_core.specs.Lines.{entering}
 use Rattle.graph_core.proofs.SideLaws.{contains-has, has-complement}
 use Rattle.graph_core.specs.declared.graph.Line.{Line}
-use Rattle.flow_cuts.specs.Cuts.{IsLeastCapacity, IsLeastCut}
+use Rattle.flow_cuts.specs.Cuts.{IsLeastCapacity, IsMinimumCut}
 use Rattle.flow_cuts.specs.NewNode.{arc_by}
 use Rattle.flow_cuts.proofs.NewNodes.{capacity-arcs_by}
 use Rattle.problem_defs.specs.declared.cert.Way.TheVariants.{Entering}
@@ -43,7 +43,7 @@ module _ {n v r value : ℕ} {ls : List Line} {X : List Bool} (b : IsLeastBelow 
   }
 
   pub least_next : {answer : ℕ} {I O Z : List Bool} → IsOnly I v → IsOnly O r → IsLeastCapacity n I O (map (arc_by Entering) ls) value answer
-      → (value ≤ answer → Z ≡ X) → (answer < value → IsLeastCut n I O (map (arc_by Entering) ls) answer Z) → IsLeastBelow n (v + 1) ls r answer Z
+      → (value ≤ answer → Z ≡ X) → (answer < value → IsMinimumCut n I O (map (arc_by Entering) ls) answer Z) → IsLeastBelow n (v + 1) ls r answer Z
   least_next {answer} {I} {O} {Z} inside outside least kept cut =
       let below : (Y : List Bool) → length Y ≡ n → has Y r ≡ false → (u : ℕ) → u < v + 1 → has Y u ≡ true → answer ≤ entering Y ls = λ Y y out u l h.
       elim (cases_lt u v) [

@@ -2,7 +2,7 @@ ghost use Rattle.std.specs.Prelude.{◌≡◌, ◌<◌, ◌≤◌, length, repli
 ghost use Rattle.graph_core.specs.Graph.{IsWithinSize};
 ghost use Rattle.problem_defs.specs.Arborescences.{Suits};
 ghost use Rattle.problem_defs.specs.Certified.{IsCertified};
-ghost use Rattle.flow_cuts.specs.Cuts.{IsLeastCapacity, IsLeastCut};
+ghost use Rattle.flow_cuts.specs.Cuts.{IsLeastCapacity, IsMinimumCut};
 ghost use Rattle.edmonds_branchings.specs.LeastSide.{IsLeastSide};
 
 use crate::packing::pack_rooted;
@@ -20,7 +20,7 @@ fn lower(flow: &mut Flow, inside: &Side, outside: &Side, least: &mut Side, value
     ensures arcs { flow.new.arcs ≡ flow.old.arcs }
     ensures value { IsLeastCapacity flow.old.nodes inside.now outside.now flow.old.arcs value result }
     ensures kept { value ≤ result → least.new ≡ least.old }
-    ensures cut { result < value → IsLeastCut flow.old.nodes inside.now outside.now flow.old.arcs result least.new }
+    ensures cut { result < value → IsMinimumCut flow.old.nodes inside.now outside.now flow.old.arcs result least.new }
 {
     let answer = flow.run(inside, outside, value);
     if answer < value {

@@ -1,6 +1,6 @@
 ghost use Rattle.std.specs.Prelude.{◌≡◌, ◌<◌, ◌≤◌, ◌^◌, length, true, false, All, IfOk};
 ghost use Rattle.graph_core.specs.Limits.{node_room, side_room};
-ghost use Rattle.graph_core.specs.Graph.{IsWithinSize};
+ghost use Rattle.flow_cuts.specs.Network.{arc_room};
 ghost use Rattle.edmonds_branchings.specs.Network.{network_of, AreEnds};
 ghost use Rattle.edmonds_branchings.specs.Round.{IsFree, IsBlocked};
 
@@ -24,7 +24,7 @@ pub fn network(alloc: Global, graph: &Graph, roots: &Counts) -> Result<Vec<Cap>,
 /// Whether each side without the last node that arc `j` leaves has a capacity of at least `k`.
 pub fn may_take(alloc: Global, n: usize, arcs: &[Cap], j: usize, k: u32) -> Result<bool, NoMemory>
     requires nodes { n ≤ node_room }
-    requires few { length arcs.now ≤ 262144 }
+    requires few { length arcs.now ≤ arc_room }
     requires ends { AreEnds n arcs.now }
     requires number { j < length arcs.now }
     ensures free { IfOk result (λ may. may ≡ true → IsFree n k arcs.now j) }

@@ -1,4 +1,4 @@
-ghost use Rattle.std.specs.Prelude.{◌≡◌, ◌<◌, ◌^◌, length, All, IfOk};
+ghost use Rattle.std.specs.Prelude.{◌<◌, ◌^◌, length, All, IfOk};
 ghost use Rattle.graph_core.specs.Graph.{IsWithinSize};
 ghost use Rattle.edmonds_branchings.specs.Rooted.{CanBePacked, ArePacked};
 

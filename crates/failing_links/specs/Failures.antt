@@ -11,7 +11,7 @@ pub record IsMostWalks (s t : ℕ) (g : GraphValue) (count : ℕ) : Type 0 where
   pub most : (others : List (List ℕ)) → IsFeasible s t g others → length others ≤ count
 
 -- so many lines leave a side with s and without t, and each such side is left by at least as many
-pub record IsLeastCut (s t : ℕ) (g : GraphValue) (count : ℕ) : Type 0 where
+pub record IsLeastCutSize (s t : ℕ) (g : GraphValue) (count : ℕ) : Type 0 where
   pub side : List Bool
   pub dual : IsDual s t g side
   pub crossed : bound g side ≡ count

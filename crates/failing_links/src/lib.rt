@@ -6,7 +6,7 @@
 ghost use Rattle.std.specs.Prelude.{◌≤◌, IfOk, length};
 ghost use Rattle.problem_defs.specs.Certified.{IsCertified};
 ghost use Rattle.problem_defs.specs.Flow.{Suits, IsFeasible};
-ghost use Rattle.failing_links.specs.Failures.{IsMostWalks, IsLeastCut};
+ghost use Rattle.failing_links.specs.Failures.{IsMostWalks, IsLeastCutSize};
 
 use flow_cuts::most_walks;
 use graph_core::{Graph, NoMemory, NumberRows};
@@ -18,7 +18,7 @@ use std::alloc::Global;
 pub fn failures_that_part(alloc: Global, graph: &Graph, from: u32, to: u32) -> Result<u64, NoMemory>
     requires { Suits from to graph.now }
     ensures walks { IfOk result (λ count. IsMostWalks from to graph.now count) }
-    ensures cut { IfOk result (λ count. IsLeastCut from to graph.now count) }
+    ensures cut { IfOk result (λ count. IsLeastCutSize from to graph.now count) }
 {
     graph.known();
     let found = most_walks(alloc, graph, from, to)?;

@@ -9,7 +9,7 @@ use Rattle.flow_cuts.specs.declared.network.Way.TheVariants.{Forth, Back}
 use Rattle.graph_core.specs.Side.{has}
 use Rattle.flow_cuts.specs.declared.network.Cap.{Cap}
 use Rattle.flow_cuts.specs.Network.{across, capacity, Separates}
-use Rattle.flow_cuts.specs.Cuts.{IsLeastCut}
+use Rattle.flow_cuts.specs.Cuts.{IsMinimumCut}
 use Rattle.flow_cuts.specs.Residual.{from_of, to_of, room_of, link_at, no_link, from_at, to_at, room_at, room_out, room_leaving, IsFlow}
 
 pub sum_by_zeros : {A : Type 0} (f : A → ℕ) (d : A) (xs : List A) → ((j : ℕ) → j < length xs → f (get_or xs j d) ≡ 0) → sum_by f xs ≡ 0
@@ -58,7 +58,7 @@ value_bound n inside outside arcs links value flow X sep = omega (arith, flow.se
 
 -- a closed side that separates is a least cut
 pub least_closed : (n : ℕ) (inside outside : List Bool) (arcs : List Cap) (links : List Link) (value : ℕ) → IsFlow n inside outside arcs links value →
-    (X : List Bool) → Separates n inside outside X → IsClosedSide X links → IsLeastCut n inside outside arcs value X
+    (X : List Bool) → Separates n inside outside X → IsClosedSide X links → IsMinimumCut n inside outside arcs value X
 least_closed n inside outside arcs links value flow X sep closed = record {
   separates = sep;
   value_is = omega (arith, flow.sent X sep, leaving_closed X links closed);
@@ -67,6 +67,6 @@ least_closed n inside outside arcs links value flow X sep closed = record {
 
 -- each least cut is closed
 pub closed_least : (n : ℕ) (inside outside : List Bool) (arcs : List Cap) (links : List Link) (value : ℕ) → IsFlow n inside outside arcs links value →
-    (X : List Bool) → IsLeastCut n inside outside arcs value X → IsClosedSide X links
+    (X : List Bool) → IsMinimumCut n inside outside arcs value X → IsClosedSide X links
 closed_least n inside outside arcs links value flow X cut =
     closed_leaving X links (omega (arith, flow.sent X cut.separates, cut.value_is))

@@ -7,7 +7,7 @@ use Rattle.graph_core.proofs.SideLaws.{has-zip2}
 use Rattle.cut_fn.specs.Submodular.{IsSubmodular}
 use Rattle.flow_cuts.specs.declared.network.Cap.{Cap}
 use Rattle.flow_cuts.specs.Network.{Separates, IsCutFunction}
-use Rattle.flow_cuts.specs.Cuts.{IsLeastCut}
+use Rattle.flow_cuts.specs.Cuts.{IsMinimumCut}
 
 module _ {n : ℕ} {inside outside : List Bool} (X Y : List Bool) (a : Separates n inside outside X) (b : Separates n inside outside Y) where
   same : length X ≡ length Y
@@ -29,7 +29,7 @@ module _ {n : ℕ} {inside outside : List Bool} (X Y : List Bool) (a : Separates
 
 -- neither has less than the least, and together they have no more than twice that
 pub least_cuts-closed : (n : ℕ) (f : List Bool → ℕ) → IsSubmodular n f → (arcs : List Cap) (inside outside X Y : List Bool) (value : ℕ) → IsCutFunction arcs f →
-    IsLeastCut n inside outside arcs value X → IsLeastCut n inside outside arcs value Y → IsLeastCut n inside outside arcs value (meet X Y) × IsLeastCut n inside outside arcs value (join X Y)
+    IsMinimumCut n inside outside arcs value X → IsMinimumCut n inside outside arcs value Y → IsMinimumCut n inside outside arcs value (meet X Y) × IsMinimumCut n inside outside arcs value (join X Y)
 least_cuts-closed n f law arcs inside outside X Y value is a b =
     let meets = Separates-meet X Y a.separates b.separates in
     let joins = Separates-join X Y a.separates b.separates in

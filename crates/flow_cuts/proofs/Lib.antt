@@ -3,6 +3,7 @@ pub mod ClosedSides
 pub mod CutLattice
 pub mod ExtremeSides
 pub mod GraphWalks
+pub mod LeastValues
 pub mod LinkLaws
 pub mod Menger
 pub mod NewNodes

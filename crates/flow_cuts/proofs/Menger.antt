@@ -7,7 +7,7 @@ use Rattle.graph_core.specs.Side.{has, IsOnly}
 use Rattle.graph_core.specs.Lines.{cut_by}
 use Rattle.problem_defs.specs.Flow.{IsFeasible, IsDual, bound}
 use Rattle.flow_cuts.specs.Network.{capacity, Separates}
-use Rattle.flow_cuts.specs.Cuts.{IsLeastCapacity, IsLeastCut, IsSmallestCut}
+use Rattle.flow_cuts.specs.Cuts.{IsLeastCapacity, IsMinimumCut, IsSmallestCut}
 use Rattle.flow_cuts.specs.Flow.{Origin, Run, FlowValue, FellShort, RunsBetween, AreWalks}
 use Rattle.flow_cuts.specs.GraphArcs.{arcs_of}
 use Rattle.flow_cuts.proofs.ArcLaws.{capacity-arcs_of}
@@ -31,7 +31,7 @@ origin g = record { kind = g.kind; lines = g.lines }
 pub IsFeasible-walks : (g : GraphValue) (s t answer : ℕ) (walks : List (List ℕ)) → AreWalks (origin g) s t answer walks → IsFeasible s t g walks
 IsFeasible-walks g s t answer walks are = record { each = are.each; disjoint = are.disjoint }
 
-pub IsDual-cut : (g : GraphValue) (I O X : List Bool) (s t answer : ℕ) → IsOnly I s → IsOnly O t → IsLeastCut (length g.names) I O (arcs_of g.kind g.lines) answer X → IsDual s t g X
+pub IsDual-cut : (g : GraphValue) (I O X : List Bool) (s t answer : ℕ) → IsOnly I s → IsOnly O t → IsMinimumCut (length g.names) I O (arcs_of g.kind g.lines) answer X → IsDual s t g X
 IsDual-cut g I O X s t answer a b cut = record {
   long = cut.separates.long;
   holds = cut.separates.holds s a.here;
@@ -39,7 +39,7 @@ IsDual-cut g I O X s t answer a b cut = record {
 }
 
 pub walks_meet : (g : GraphValue) (I O X : List Bool) (s t answer : ℕ) (walks : List (List ℕ)) → AreWalks (origin g) s t answer walks →
-    IsLeastCut (length g.names) I O (arcs_of g.kind g.lines) answer X → length walks ≡ bound g X
+    IsMinimumCut (length g.names) I O (arcs_of g.kind g.lines) answer X → length walks ≡ bound g X
 walks_meet g I O X s t answer walks are cut = are.many ∙ sym cut.value_is ∙ capacity-arcs_of g.kind X g.lines
 
 -- the flow of a graph after a run from a node to another

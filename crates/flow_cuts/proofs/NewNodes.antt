@@ -79,7 +79,7 @@ capacity-count_arcs z v X (y ∷ Y) out same (c ∷ cs) =
 
 -- a side with the same nodes as one without the new node
 pub capacity-new_node : (arcs : List Cap) (counts : List ℕ) (X Y : List Bool) → ((v : ℕ) → has X v ≡ has Y v) → has X (length counts) ≡ false
-    → capacity X (with_new_node arcs counts) ≡ value_with arcs (slice_index counts) Y
+    → capacity X (with_new_node arcs counts) ≡ value_with arcs counts Y
 capacity-new_node arcs counts X Y same out =
     omega (
       arith,

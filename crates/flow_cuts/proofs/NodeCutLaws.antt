@@ -11,7 +11,7 @@ use Rattle.graph_core.specs.declared.graph.Line.{Line}
 use Rattle.graph_core.specs.declared.graph.Kind.TheVariants.{Undirected}
 use Rattle.graph_core.proofs.CutLaws.{degree-complement}
 use Rattle.graph_core.proofs.SideLaws.{has-complement}
-use Rattle.flow_cuts.specs.Cuts.{IsLeastCapacity, IsLeastCut}
+use Rattle.flow_cuts.specs.Cuts.{IsLeastCapacity, IsMinimumCut}
 use Rattle.flow_cuts.specs.GraphArcs.{arcs_of}
 use Rattle.flow_cuts.specs.Network.{capacity, Separates}
 use Rattle.flow_cuts.specs.NodeCuts.{IsLeastNodeCut, NoneIsLess}
@@ -46,7 +46,7 @@ module _ {n s t : ℕ} {I O : List Bool} (ls : List Line) (inside : IsOnly I s) 
       let out : has I t ≡ false = false_from_ne_true (has I t) (λ h. apart (sym (inside.only t h))) in
       omega (arith, bound I (separates I e inside.here out), capacity-arcs_of Undirected I ls, count_by-le-length (crosses I) ls)
 
-  pub least_node_cut : (w : ℕ) (X : List Bool) → IsLeastCut n I O (arcs_of Undirected ls) w X → IsLeastNodeCut n ls s t w X
+  pub least_node_cut : (w : ℕ) (X : List Bool) → IsMinimumCut n I O (arcs_of Undirected ls) w X → IsLeastNodeCut n ls s t w X
   least_node_cut w X cut = record {
     long = cut.separates.long;
     holds = cut.separates.holds s inside.here;

@@ -5,8 +5,10 @@ use Rattle.std.proofs.lemmas.Bool.{false≢true, cases_Bool}
 use Rattle.std.proofs.lemmas.List.{get_or_default}
 use Rattle.graph_core.specs.Side.{has, IsOnly}
 use Rattle.graph_core.proofs.ProperLaws.{is_proper}
+use Rattle.cut_fn.specs.Covered.{IsCovered}
 use Rattle.flow_cuts.specs.Cuts.{IsLeastCapacity, IsSmallestCut}
-use Rattle.flow_cuts.specs.Sparse.{AreJoined, IsConnected, IsSparse}
+use Rattle.flow_cuts.specs.Network.{capacity}
+use Rattle.flow_cuts.specs.Sparse.{AreJoined, IsSparseBetween}
 use Rattle.flow_cuts.specs.declared.network.Cap.{Cap}
 
 module _ {n u v : ℕ} {I O : List Bool} (arcs : List Cap) (inside : IsOnly I u) (outside : IsOnly O v) where
@@ -15,16 +17,22 @@ module _ {n u v : ℕ} {I O : List Bool} (arcs : List Cap) (inside : IsOnly I u)
       let most = ran.least X (record { long = long; holds = λ w h. ap (has X) (inside.only w h) ∙ holds; misses = λ w h. ap (has X) (outside.only w h) ∙ misses }) in
       omega arith
 
-  pub sparse-by : (least answer : ℕ) (X : List Bool) → v < n → IsSmallestCut n I O arcs answer X → answer < least → IsSparse n arcs least X
-  sparse-by least answer X below smallest few =
+  pub sparse_between-by : (least answer : ℕ) (X : List Bool) → v < n → IsSmallestCut n I O arcs answer X → answer < least → IsSparseBetween n arcs u v least X
+  sparse_between-by least answer X below smallest few =
       let apart = smallest.cut.separates in
+      let holds = apart.holds u inside.here in
+      let misses = apart.misses v outside.here in
       record {
-        proper = is_proper X u v apart.long (apart.holds u inside.here) below (apart.misses v outside.here);
-        few = omega (arith, smallest.cut.value_is);
+        sparse = record {
+          proper = is_proper X u v apart.long holds below misses;
+          few = omega (arith, smallest.cut.value_is);
+        };
+        holds = holds;
+        misses = misses;
       }
 
 -- where node 0 is joined to each other one both ways, so is each proper side to the rest
-pub connected-from : (n least : ℕ) (arcs : List Cap) → ((w : ℕ) → 1 ≤ w → w < n → AreJoined n arcs 0 w least × AreJoined n arcs w 0 least) → IsConnected n arcs least
+pub connected-from : (n least : ℕ) (arcs : List Cap) → ((w : ℕ) → 1 ≤ w → w < n → AreJoined n arcs 0 w least × AreJoined n arcs w 0 least) → IsCovered n least (λ X. capacity X arcs)
 connected-from n least arcs each X p = elim (cases_Bool (has X 0)) [
   | inl here ↦
       let (w, lw, out) = p.some_out in

@@ -1,21 +1,22 @@
 -- Runs in the network of a star, and the sides without the new node.
-use Rattle.std.specs.Prelude.{ℕ, ◌≡◌, ◌+◌, ◌<◌, ◌≤◌, Bool, true, false, List, [], ◌∷◌, ◌++◌, length, slice_index, slice_set, All}
+use Rattle.std.specs.Prelude.{ℕ, ◌≡◌, ◌+◌, ◌<◌, ◌≤◌, Bool, true, false, List, [], ◌∷◌, ◌++◌, length, slice_set, All}
 use Rattle.std.proofs.Common.{sym, ap, ◌∙◌, inl, inr, arith}
 use Rattle.std.proofs.lemmas.Bool.{cases_eq, cases_lt}
 use Rattle.std.proofs.lemmas.List.{length-append, get_or-set_same, get_or-set_other, get_or_past}
 use Rattle.std.proofs.lemmas.List.Elements.{All-append, All-weaker}
+use Rattle.graph_core.specs.Limits.{side_room}
 use Rattle.graph_core.specs.Side.{has, IsOnly}
 use Rattle.cut_fn.specs.TwoSides.{IsWithin}
-use Rattle.flow_cuts.specs.Cuts.{IsLeastCapacity, IsLeastCut, IsSmallestCut, IsLargestCut}
+use Rattle.flow_cuts.specs.Cuts.{IsLeastCapacity, IsMinimumCut, IsSmallestCut, IsLargestCut}
 use Rattle.flow_cuts.specs.LeastMissing.{HasMissing, IsLeastMissing}
-use Rattle.flow_cuts.specs.Network.{Separates, capacity}
+use Rattle.flow_cuts.specs.Network.{Separates, arc_room, capacity}
 use Rattle.flow_cuts.specs.NewNode.{count_arcs, with_new_node, value_with, AreArcs}
 use Rattle.flow_cuts.specs.StarRun.{AreRunSides}
 use Rattle.flow_cuts.specs.declared.network.Cap.{Cap}
 use Rattle.flow_cuts.proofs.NewNodes.{length-count_arcs, ends-count_arcs, capacity-new_node, has-narrow, has-more}
 
-module _ {arcs : List Cap} (counts : List ℕ) (a : AreArcs (length counts) arcs) (nodes : length counts ≤ 8191) where
-  pub few_arcs : length (with_new_node arcs counts) ≤ 16777216
+module _ {arcs : List Cap} (counts : List ℕ) (a : AreArcs (length counts) arcs) (nodes : length counts < side_room) where
+  pub few_arcs : length (with_new_node arcs counts) ≤ arc_room
   few_arcs = omega (arith, length-append arcs (count_arcs (length counts) 0 counts), length-count_arcs (length counts) 0 counts, a.few)
 
   pub new_ends : All (λ arc. (arc.tail < length counts + 1) × (arc.head < length counts + 1)) (with_new_node arcs counts)
@@ -64,12 +65,12 @@ module _ (arcs : List Cap) (counts : List ℕ) {H I O : List Bool} {w : ℕ} (s 
         ]);
   }
 
-  value_wide : (Y : List Bool) → length Y ≡ length counts → capacity (Y ++ false ∷ []) (with_new_node arcs counts) ≡ value_with arcs (slice_index counts) Y
+  value_wide : (Y : List Bool) → length Y ≡ length counts → capacity (Y ++ false ∷ []) (with_new_node arcs counts) ≡ value_with arcs counts Y
   value_wide Y long = capacity-new_node arcs counts (Y ++ false ∷ []) Y (has-more Y) (has-more Y (length counts) ∙ get_or_past Y (length counts) false (omega arith))
 
   module _ {stop answer : ℕ} (least : IsLeastCapacity (length counts + 1) I O (with_new_node arcs counts) stop answer) where
-    pub least_missing : (X : List Bool) → (answer < stop → HasMissing (length counts) (value_with arcs (slice_index counts)) H w answer X)
-        → IsLeastMissing (length counts) (value_with arcs (slice_index counts)) H w stop answer X
+    pub least_missing : (X : List Bool) → (answer < stop → HasMissing (length counts) (value_with arcs counts) H w answer X)
+        → IsLeastMissing (length counts) (value_with arcs counts) H w stop answer X
     least_missing X reached = record {
       stopped = least.stopped;
       least = λ Y long holds out. omega (arith, least.least (Y ++ false ∷ []) (separated Y long holds out), value_wide Y long);
@@ -77,16 +78,16 @@ module _ (arcs : List Cap) (counts : List ℕ) {H I O : List Bool} {w : ℕ} (s 
     }
 
     -- a side of least value is a least cut
-    cut_of : (Y : List Bool) → HasMissing (length counts) (value_with arcs (slice_index counts)) H w answer Y
-        → IsLeastCut (length counts + 1) I O (with_new_node arcs counts) answer (Y ++ false ∷ [])
+    cut_of : (Y : List Bool) → HasMissing (length counts) (value_with arcs counts) H w answer Y
+        → IsMinimumCut (length counts + 1) I O (with_new_node arcs counts) answer (Y ++ false ∷ [])
     cut_of Y y = record { separates = separated Y y.long y.holds y.misses; value_is = value_wide Y y.long ∙ y.value_is; least = least.least }
 
     module _ {Z : List Bool} (X : List Bool) (long : length X ≡ length counts) (first : (v : ℕ) → v < length counts → has X v ≡ has Z v) where
-      same_nodes : IsLeastCut (length counts + 1) I O (with_new_node arcs counts) answer Z → (v : ℕ) → has Z v ≡ has X v
+      same_nodes : IsMinimumCut (length counts + 1) I O (with_new_node arcs counts) answer Z → (v : ℕ) → has Z v ≡ has X v
       same_nodes cut = has-narrow (length counts) Z X cut.separates.long long (cut.separates.misses (length counts) s.last) first
 
       -- a least cut without the new node is a side of least value
-      pub narrowed : IsLeastCut (length counts + 1) I O (with_new_node arcs counts) answer Z → HasMissing (length counts) (value_with arcs (slice_index counts)) H w answer X
+      pub narrowed : IsMinimumCut (length counts + 1) I O (with_new_node arcs counts) answer Z → HasMissing (length counts) (value_with arcs counts) H w answer X
       narrowed cut =
           let same = same_nodes cut in
           record {
@@ -97,9 +98,9 @@ module _ (arcs : List Cap) (counts : List ℕ) {H I O : List Bool} {w : ℕ} (s 
           }
 
       pub smallest : IsSmallestCut (length counts + 1) I O (with_new_node arcs counts) answer Z → (Y : List Bool)
-          → HasMissing (length counts) (value_with arcs (slice_index counts)) H w answer Y → IsWithin X Y
+          → HasMissing (length counts) (value_with arcs counts) H w answer Y → IsWithin X Y
       smallest cut Y y = record { at = λ v i. sym (has-more Y v) ∙ (cut.smallest (Y ++ false ∷ []) (cut_of Y y)).at v (same_nodes cut.cut v ∙ i) }
 
       pub largest : IsLargestCut (length counts + 1) I O (with_new_node arcs counts) answer Z → (Y : List Bool)
-          → HasMissing (length counts) (value_with arcs (slice_index counts)) H w answer Y → IsWithin Y X
+          → HasMissing (length counts) (value_with arcs counts) H w answer Y → IsWithin Y X
       largest cut Y y = record { at = λ v i. sym (same_nodes cut.cut v) ∙ (cut.largest (Y ++ false ∷ []) (cut_of Y y)).at v (has-more Y v ∙ i) }

@@ -2,6 +2,7 @@ pub mod Cuts
 pub mod Flow
 pub mod GraphArcs
 pub mod LeastMissing
+pub mod LeastOver
 pub mod LinkWalks
 pub mod Network
 pub mod NewNode
@@ -13,4 +14,5 @@ pub mod Search
 pub mod Sound
 pub mod Sparse
 pub mod StarRun
+pub mod StarValues
 pub mod Streams

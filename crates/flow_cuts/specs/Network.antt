@@ -3,6 +3,10 @@ use Rattle.std.specs.Prelude.{◌≡◌, ℕ, Bool, true, false, not, ◌&&◌, 
 use Rattle.graph_core.specs.Side.{has}
 use Rattle.flow_cuts.specs.declared.network.Cap.{Cap}
 
+-- the most arcs of a network
+abbrev pub arc_room : ℕ
+arc_room = 16777216
+
 -- the amount r where a holds and b doesn't, else 0
 abbrev pub across : Bool → Bool → ℕ → ℕ
 across a b r = if a && not b then r else 0

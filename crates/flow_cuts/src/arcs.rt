@@ -2,6 +2,7 @@ ghost use Rattle.std.specs.Prelude.{◌≡◌, ◌<◌, ◌≤◌, ◌^◌, leng
 ghost use Rattle.graph_core.specs.Limits.{line_room, side_room};
 ghost use Rattle.graph_core.specs.declared.graph.Kind.TheVariants.{Undirected};
 ghost use Rattle.flow_cuts.specs.GraphArcs.{arcs_of};
+ghost use Rattle.flow_cuts.specs.Network.{arc_room};
 ghost use Rattle.flow_cuts.specs.NewNode.{arc_by, with_new_node};
 
 use crate::network::Cap;
@@ -50,7 +51,7 @@ pub fn arcs_by(alloc: Global, way: Way, lines: &[Line]) -> Result<Vec<Cap>, NoMe
 pub fn add_new_node(alloc: Global, arcs: &[Cap], counts: &[u64]) -> Result<Vec<Cap>, NoMemory>
     requires nodes { length counts.now ≤ side_room }
     requires small { All (λ count. count < 2 ^ 32) counts.now }
-    requires few { length arcs.now ≤ 16777216 }
+    requires few { length arcs.now ≤ arc_room }
     ensures { IfOk result (λ all. all.items ≡ with_new_node arcs.now counts.now) }
 {
     let mut all = Vec::with_capacity(alloc, arcs.len() + counts.len())?;

@@ -1,7 +1,8 @@
-ghost use Rattle.std.specs.Prelude.{◌≡◌, ℕ, ◌+◌, ◌<◌, ◌≤◌, ◌^◌, length, Some, None, IfOk, map, vec_len, All};
+ghost use Rattle.std.specs.Prelude.{◌≡◌, ℕ, ◌<◌, ◌≤◌, ◌^◌, length, Some, None, IfOk, map, vec_len, All};
 ghost use Rattle.flow_cuts.specs.Cuts.{IsLeastCapacity, IsSmallestCut, IsLargestCut};
 ghost use Rattle.flow_cuts.specs.Flow.{Origin, Run, FellShort, RunsBetween, AreWalks};
 ghost use Rattle.flow_cuts.specs.GraphArcs.{arcs_of};
+ghost use Rattle.flow_cuts.specs.Network.{arc_room};
 ghost use Rattle.flow_cuts.specs.Residual.{EachFits, AreLinksOf, from_at, to_at, link_of, link_along};
 ghost use Rattle.flow_cuts.specs.Sound.{arcs_seen, origin_of, IsWholeOf};
 ghost use Rattle.flow_cuts.specs.declared.network.Step.{Step as StepOf};
@@ -116,7 +117,7 @@ impl Flow {
     /// A flow over arcs with capacities among `n` nodes, before its first run.
     pub fn of_arcs(alloc: Global, n: usize, arcs: &[Cap]) -> Result<Flow, NoMemory>
         requires nodes { n ≤ side_room }
-        requires few { length arcs.now ≤ 16777216 }
+        requires few { length arcs.now ≤ arc_room }
         requires ends { All (λ arc. (arc.tail < n) × (arc.head < n)) arcs.now }
         ensures { IfOk result (λ flow. flow ≡ record { nodes = n; arcs = arcs.now; graph = None; last = None }) }
     {

@@ -2,7 +2,7 @@ ghost use Rattle.std.specs.Prelude.{ℕ, Bool, List};
 ghost use Rattle.graph_core.specs.Graph.{GraphValue};
 ghost use Rattle.graph_core.specs.Side.{meet, join};
 ghost use Rattle.graph_core.specs.declared.graph.Kind.TheVariants.{Undirected, Directed};
-ghost use Rattle.flow_cuts.specs.Cuts.{IsLeastCut};
+ghost use Rattle.flow_cuts.specs.Cuts.{IsMinimumCut};
 ghost use Rattle.flow_cuts.specs.GraphArcs.{arcs_of};
 ghost use Rattle.flow_cuts.specs.Network.{IsCutFunction};
 ghost use Rattle.flow_cuts.specs.declared.network.Cap.{Cap};
@@ -19,5 +19,5 @@ pub fn capacity_is_the_cut()
 /// Where a network's cut function is submodular, the intersection and the union of two least cuts are least cuts. So one of
 /// them is the smallest and one the largest.
 pub fn least_cuts_meet_and_join<F: CutFn>(f: &F)
-    ensures { (arcs : List Cap) (inside outside X Y : List Bool) (value : ℕ) → IsCutFunction arcs (F.cut f.now) → IsLeastCut (F.nodes f.now) inside outside arcs value X → IsLeastCut (F.nodes f.now) inside outside arcs value Y → IsLeastCut (F.nodes f.now) inside outside arcs value (meet X Y) × IsLeastCut (F.nodes f.now) inside outside arcs value (join X Y) }
+    ensures { (arcs : List Cap) (inside outside X Y : List Bool) (value : ℕ) → IsCutFunction arcs (F.cut f.now) → IsMinimumCut (F.nodes f.now) inside outside arcs value X → IsMinimumCut (F.nodes f.now) inside outside arcs value Y → IsMinimumCut (F.nodes f.now) inside outside arcs value (meet X Y) × IsMinimumCut (F.nodes f.now) inside outside arcs value (join X Y) }
 {}

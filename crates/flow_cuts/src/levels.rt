@@ -4,7 +4,7 @@ ghost use Rattle.flow_cuts.specs.declared.network.Cap.{Cap as CapOf};
 ghost use Rattle.graph_core.specs.Limits.{side_room};
 ghost use Rattle.graph_core.specs.Side.{has};
 ghost use Rattle.flow_cuts.specs.Residual.{EachFits, SameEnds, SameSums, from_at, IsFlow};
-ghost use Rattle.flow_cuts.specs.Search.{mark_at, unseen, IsOpenWay, IsNarrowWay, IsAdjacency, IsLevelled, IsLedTo, IsSearched, IsMissed};
+ghost use Rattle.flow_cuts.specs.Search.{mark_at, IsOpenWay, IsNarrowWay, IsAdjacency, IsLevelled, IsLedTo, IsSearched, IsMissed};
 
 use crate::adjacency::Adjacency;
 use crate::course::Course;

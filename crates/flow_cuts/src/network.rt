@@ -1,5 +1,5 @@
-ghost use Rattle.std.specs.Prelude.{◌≡◌, ℕ, ◌+◌, ◌-◌, ◌^◌, ◌<◌, ◌≤◌, length};
-ghost use Rattle.flow_cuts.specs.Residual.{link_at, from_of, to_of, room_of, moved, pushed, from_at, to_at, room_at, EachFits, link_of, link_along};
+ghost use Rattle.std.specs.Prelude.{◌≡◌, ◌+◌, ◌^◌, ◌<◌, ◌≤◌, length};
+ghost use Rattle.flow_cuts.specs.Residual.{from_of, to_of, room_of, moved, pushed, from_at, to_at, room_at, EachFits, link_of, link_along};
 ghost use Rattle.flow_cuts.specs.Streams.{one_less, taken};
 
 use graph_core::{Kind, Line};

@@ -1,4 +1,4 @@
-ghost use Rattle.std.specs.Prelude.{◌≡◌, ◌≢◌, ◌<◌, ◌≤◌, ◌↔◌, length, IsTrue, IfOk};
+ghost use Rattle.std.specs.Prelude.{◌≡◌, ◌≢◌, ◌<◌, ◌↔◌, length, IsTrue, IfOk};
 ghost use Rattle.graph_core.specs.declared.graph.Kind.TheVariants.{Undirected};
 ghost use Rattle.flow_cuts.specs.GraphArcs.{arcs_of};
 ghost use Rattle.flow_cuts.specs.NodeCuts.{IsLeastNodeCut, NoneIsLess};

@@ -1,4 +1,4 @@
-ghost use Rattle.std.specs.Prelude.{◌≡◌, ℕ, ◌+◌, ◌<◌, ◌≤◌, List, Bool, length, IfOk};
+ghost use Rattle.std.specs.Prelude.{◌≡◌, ℕ, ◌≤◌, List, Bool, length, IfOk};
 ghost use Rattle.flow_cuts.specs.Residual.{EachFits, AreLinksOf, IsFlow};
 ghost use Rattle.flow_cuts.specs.Cuts.{IsSmallestCut, IsLargestCut};
 ghost use Rattle.flow_cuts.specs.Search.{IsAdjacency, IsSearched, IsMissed};

@@ -3,7 +3,7 @@ ghost use Rattle.flow_cuts.specs.Residual.{from_at, to_at, room_at};
 ghost use Rattle.graph_core.specs.Limits.{side_room};
 ghost use Rattle.graph_core.specs.Side.{has};
 ghost use Rattle.flow_cuts.specs.declared.network.Link.{Link as LinkOf};
-ghost use Rattle.flow_cuts.specs.Search.{unseen, mark_at, row_at, IsReached, IsFilled, IsSearchForest, IsAdjacency, Grows, IsClosedTree, IsLookedAt, IsRow, IsDone, IsSearched, IsMissed};
+ghost use Rattle.flow_cuts.specs.Search.{unseen, mark_at, IsFilled, IsSearchForest, IsAdjacency, Grows, IsLookedAt, IsRow, IsSearched, IsMissed};
 
 use crate::adjacency::Adjacency;
 use crate::network::{Link, Step, Way, step_from, step_room, step_to};

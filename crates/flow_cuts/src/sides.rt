@@ -1,4 +1,4 @@
-ghost use Rattle.std.specs.Prelude.{◌≡◌, ℕ, ◌+◌, ◌<◌, ◌≤◌, List, Bool, true, length, map, not};
+ghost use Rattle.std.specs.Prelude.{◌≡◌, ℕ, ◌<◌, ◌≤◌, length, map, not};
 ghost use Rattle.flow_cuts.specs.Residual.{mirrored};
 ghost use Rattle.graph_core.specs.Limits.{side_room};
 ghost use Rattle.graph_core.specs.Side.{has};

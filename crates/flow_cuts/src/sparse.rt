@@ -1,5 +1,6 @@
 ghost use Rattle.std.specs.Prelude.{◌≡◌, ◌<◌, ◌≤◌, length, true, false, All, IfOk};
-ghost use Rattle.flow_cuts.specs.Sparse.{AreJoined, FindsSparse, IsSparse};
+ghost use Rattle.flow_cuts.specs.Network.{arc_room};
+ghost use Rattle.flow_cuts.specs.Sparse.{AreJoined, FindsSparse, IsSparseBetween};
 ghost use Rattle.graph_core.specs.Limits.{side_room};
 
 use crate::flow::Flow;
@@ -8,7 +9,7 @@ use graph_core::{NoMemory, Side};
 use std::alloc::Global;
 
 /// Whether less than `least` leaves a side that holds `u` and misses `v`. Such a side is then in `outside`.
-fn is_parted(
+pub fn is_parted(
     flow: &mut Flow,
     inside: &mut Side,
     outside: &mut Side,
@@ -24,7 +25,7 @@ fn is_parted(
     ensures arcs { flow.new.arcs ≡ flow.old.arcs }
     ensures inside { length inside.new ≡ length inside.old }
     ensures outside { length outside.new ≡ length outside.old }
-    ensures parted { result ≡ true → IsSparse flow.old.nodes flow.old.arcs least outside.new }
+    ensures parted { result ≡ true → IsSparseBetween flow.old.nodes flow.old.arcs u v least outside.new }
     ensures joined { result ≡ false → AreJoined flow.old.nodes flow.old.arcs u v least }
 {
     inside.hold_only(u);
@@ -46,7 +47,7 @@ pub fn sparse_side(
     least: u64,
 ) -> Result<Option<Side>, NoMemory>
     requires nodes { n ≤ side_room }
-    requires few { length arcs.now ≤ 16777216 }
+    requires few { length arcs.now ≤ arc_room }
     requires ends { All (λ a. (a.tail < n) × (a.head < n)) arcs.now }
     ensures { IfOk result (FindsSparse n arcs.now least) }
 {

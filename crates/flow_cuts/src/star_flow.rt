@@ -1,4 +1,5 @@
-ghost use Rattle.std.specs.Prelude.{◌≡◌, ◌+◌, ◌<◌, ◌≤◌, ◌^◌, ℕ, Bool, List, length, slice_index, All, Some, IfOk};
+ghost use Rattle.std.specs.Prelude.{◌≡◌, ◌+◌, ◌<◌, ◌≤◌, ◌^◌, ℕ, Bool, List, length, All, Some, IfOk};
+ghost use Rattle.graph_core.specs.Limits.{side_room};
 ghost use Rattle.graph_core.specs.Side.{has};
 ghost use Rattle.cut_fn.specs.TwoSides.{IsWithin};
 ghost use Rattle.flow_cuts.specs.Cuts.{IsLeastCapacity};
@@ -22,7 +23,7 @@ pub struct StarFlow<'a> {
     flow: Flow,
     inside: Side,
     outside: Side,
-    ghost few: { length counts.now ≤ 8191 },
+    ghost few: { length counts.now < side_room },
     ghost nodes: { flow.nodes ≡ length counts.now + 1 },
     ghost network: { flow.arcs ≡ with_new_node arcs.now counts.now },
     ghost inside_long: { length inside ≡ length counts.now + 1 },
@@ -44,7 +45,7 @@ fn copy_nodes(into: &mut Side, from: &Side, n: u32)
 impl<'a> StarFlow<'a> {
     /// Makes the network. The other calls take no memory.
     pub fn new(alloc: Global, arcs: &'a [Cap], counts: &'a [u64]) -> Result<StarFlow<'a>, NoMemory>
-        requires nodes { length counts.now ≤ 8191 }
+        requires nodes { length counts.now < side_room }
         requires arcs { AreArcs (length counts.now) arcs.now }
         requires small { All (λ count. count < 2 ^ 32) counts.now }
         ensures arcs { IfOk result (λ star. star.arcs.now ≡ arcs.now) }
@@ -92,8 +93,8 @@ impl<'a> StarFlow<'a> {
         ensures counts { self.new.counts.now ≡ self.old.counts.now }
         ensures long { length into.new ≡ length into.old }
         ensures kept { stop ≤ result → into.new ≡ into.old }
-        ensures least { IsLeastMissing (length self.old.counts.now) (value_with self.old.arcs.now (slice_index self.old.counts.now)) held.now missed stop result into.new }
-        ensures smallest { result < stop → (X : List Bool) → HasMissing (length self.old.counts.now) (value_with self.old.arcs.now (slice_index self.old.counts.now)) held.now missed result X → IsWithin into.new X }
+        ensures least { IsLeastMissing (length self.old.counts.now) (value_with self.old.arcs.now self.old.counts.now) held.now missed stop result into.new }
+        ensures smallest { result < stop → (X : List Bool) → HasMissing (length self.old.counts.now) (value_with self.old.arcs.now self.old.counts.now) held.now missed result X → IsWithin into.new X }
     {
         let answer = self.run(held, missed, stop);
         if answer < stop {
@@ -112,8 +113,8 @@ impl<'a> StarFlow<'a> {
         ensures counts { self.new.counts.now ≡ self.old.counts.now }
         ensures long { length into.new ≡ length into.old }
         ensures kept { stop ≤ result → into.new ≡ into.old }
-        ensures least { IsLeastMissing (length self.old.counts.now) (value_with self.old.arcs.now (slice_index self.old.counts.now)) held.now missed stop result into.new }
-        ensures largest { result < stop → (X : List Bool) → HasMissing (length self.old.counts.now) (value_with self.old.arcs.now (slice_index self.old.counts.now)) held.now missed result X → IsWithin X into.new }
+        ensures least { IsLeastMissing (length self.old.counts.now) (value_with self.old.arcs.now self.old.counts.now) held.now missed stop result into.new }
+        ensures largest { result < stop → (X : List Bool) → HasMissing (length self.old.counts.now) (value_with self.old.arcs.now self.old.counts.now) held.now missed result X → IsWithin X into.new }
     {
         let answer = self.run(held, missed, stop);
         if answer < stop {

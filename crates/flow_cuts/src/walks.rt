@@ -1,4 +1,4 @@
-ghost use Rattle.std.specs.Prelude.{◌≡◌, ℕ, ◌+◌, ◌<◌, ◌≤◌, List, [], ◌∷◌, ◌++◌, Bool, true, length, IfOk, OnOk};
+ghost use Rattle.std.specs.Prelude.{◌≡◌, ℕ, ◌+◌, ◌<◌, ◌≤◌, List, Bool, true, length, IfOk, OnOk};
 ghost use Rattle.flow_cuts.specs.declared.network.Link.{Link as LinkOf};
 ghost use Rattle.flow_cuts.specs.declared.network.Step.{Step as StepOf};
 ghost use Rattle.flow_cuts.specs.Residual.{SameEnds, from_at};

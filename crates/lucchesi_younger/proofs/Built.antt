@@ -12,11 +12,12 @@ use Rattle.graph_core.specs.declared.graph.Line.{Line}
 use Rattle.graph_core.proofs.Counting.{weight, passes, sum_by-agree, sum_by-ones, sum_by-swap, count_by-picked, All-slice_get}
 use Rattle.problem_defs.specs.Dijoin.{IsClosed}
 use Rattle.dicut_lattice.specs.Tight.{joins, IsTight}
-use Rattle.dicut_lattice.specs.Level.{IsLevel, entered_by}
-use Rattle.dicut_lattice.proofs.ClosedSides.{has-inside}
+use Rattle.dicut_lattice.specs.Level.{IsLevel, ArePieces, entered_by}
+use Rattle.dicut_lattice.proofs.ClosedSides.{has-inside, never_out}
+use Rattle.dicut_lattice.proofs.Pieces.{enters_is}
 use Rattle.graph_core.proofs.ProperLaws.{is_proper}
 use Rattle.graph_core.proofs.SideLaws.{same_sides}
-use Rattle.lucchesi_younger.specs.Kept.{at, IsArc, IsIn, IsKept, level, IsSolved, AreLayer, IsBuilt}
+use Rattle.lucchesi_younger.specs.Kept.{at, IsArc, IsIn, IsKept, level, IsSolved, IsBuilt}
 use Rattle.lucchesi_younger.proofs.Joins.{entered, All-from_in, All-in, picked-in, arc-at}
 use Rattle.lucchesi_younger.proofs.Levels.{has-level, level-in, level-out, in-level, out-level, is-level}
 use Rattle.lucchesi_younger.proofs.Weighed.{All-from_at}
@@ -28,9 +29,6 @@ min-next p i =
       | inl more ↦ rw more (let l = leb-true (i + 1) p more in omega arith)
       | inr less ↦ rw less (let l = leb-false (i + 1) p less in omega arith)
     ]
-
-enters_as : (t h : Bool) → (t ≡ true → h ≡ true) → weight (h && not t) + weight t ≡ weight h
-enters_as t h rise = grind arith
 
 enters_none : (t h : Bool) → (t ≡ false → h ≡ true → ⊥) → 0 ≡ weight (h && not t)
 enters_none true true never = refl
@@ -56,18 +54,19 @@ module _ (g : GraphValue) (fits : All (Fits (length g.names)) g.lines) (w : Work
       let (x, x_in, out) = p.some_out in
       is-level g w late k i x y (omega (arith, p.long)) (out-level w.potential i x some out) (in-level w.potential i y some (has-inside L y y_in inside))
 
-  -- no arc enters a level that isn't proper
-  pub no-layer : (L : List Bool) → length L ≡ length g.names → (IsProper (length g.names) L → ⊥) → AreLayer g w.join L []
-  no-layer L long improper = record {
+  -- no arc enters a level that isn't proper, and it parts no two nodes
+  pub no-pieces : (L : List Bool) → length L ≡ length g.names → (IsProper (length g.names) L → ⊥) → ArePieces g w.join L []
+  no-pieces L long improper = record {
     tight = All-nil (IsTight g w.join);
     entered = All-from_at (λ l. entered_by l [] ≡ weight (enters L l)) g.lines (λ j l arc.
         let ends = All-slice_get (Fits (length g.names)) g.lines fits j l arc in
         enters_none (has L l.tail) (has L l.head) (λ out in'. improper (is_proper L l.head l.tail long in' ends.tail out)));
+    separated = λ y x in_y x_in out. absurd (improper (is_proper L y x long in_y x_in out));
   }
 
   module _ (i : ℕ) (sides : List (List Bool)) (b : IsBuilt g w i sides) where
     -- the pieces of the next level join
-    pub built-more : (P : List (List Bool)) → AreLayer g w.join (level w.potential (i + 1)) P → IsBuilt g w (i + 1) (sides ++ P)
+    pub built-more : (P : List (List Bool)) → ArePieces g w.join (level w.potential (i + 1)) P → IsBuilt g w (i + 1) (sides ++ P)
     built-more P pieces = record {
       tight = All-append (IsTight g w.join) sides P b.tight pieces.tight;
       entered = λ j l arc.
@@ -75,7 +74,8 @@ module _ (g : GraphValue) (fits : All (Fits (length g.names)) g.lines) (w : Work
           let was = b.entered j l arc in
           let rise = k.rises j l arc in
           let new = All-slice_get (λ x. entered_by x P ≡ weight (enters L x)) g.lines pieces.entered j l arc in
-          let ends = enters_as (has L l.tail) (has L l.head) (λ in'. let least = in-level w.potential (i + 1) l.tail (omega arith) in' in level-in w.potential (i + 1) l.head (omega arith) (omega arith)) in
+          let in_too = never_out (has L l.tail) (has L l.head) (λ in'. let least = in-level w.potential (i + 1) l.tail (omega arith) in' in level-in w.potential (i + 1) l.head (omega arith) (omega arith)) in
+          let ends = enters_is (has L l.tail) (has L l.head) in_too in
           omega (
             arith,
             sum_by-append (λ U. weight (enters U l)) sides P,

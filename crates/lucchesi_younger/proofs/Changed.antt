@@ -12,7 +12,7 @@ use Rattle.graph_core.proofs.SideLaws.{has-below}
 use Rattle.lucchesi_younger.specs.Kept.{IsIn, IsKept}
 use Rattle.lucchesi_younger.specs.Marks.{AreMarks, AreListed, AreCleared, AreAdded}
 use Rattle.lucchesi_younger.specs.Ways.{IsWay, IsExchanged, arcs_taken, arcs_left}
-use Rattle.lucchesi_younger.proofs.Booleans.{weight-in}
+use Rattle.dicut_lattice.proofs.Exchanged.{weight-in}
 use Rattle.lucchesi_younger.proofs.Joins.{All-from_in, occurs-same, occurs-other}
 use Rattle.lucchesi_younger.proofs.WayLaws.{left-once, taken-free}
 use Rattle.lucchesi_younger.specs.declared.work.Step.{Step}

@@ -1,7 +1,7 @@
 -- The dijoin after an exchange keeps the conditions.
 use Rattle.std.specs.Prelude.{ℕ, suc, ◌≡◌, ◌+◌, ◌<◌, ◌≤◌, Bool, true, false, not, ◌&&◌, List, [], ◌∷◌, length, slice_index_or, sum_by, count_by, All}
 use Rattle.std.proofs.Common.{leb, sym, ap, ◌∙◌, subst, arith, inl, inr}
-use Rattle.std.proofs.lemmas.Bool.{cases_Bool, cases_eq, cases_lt, and_parts}
+use Rattle.std.proofs.lemmas.Bool.{cases_Bool, cases_eq, cases_lt, and_parts, not-true}
 use Rattle.std.proofs.lemmas.List.Sums.{sum_by-cons}
 use Rattle.std.proofs.lemmas.List.Elements.{All-weaker}
 use Rattle.graph_core.specs.Graph.{GraphValue}
@@ -15,7 +15,6 @@ use Rattle.dicut_lattice.specs.Tight.{joins, IsTight, AreSeparated}
 use Rattle.dicut_lattice.specs.Level.{IsLevel, ArePieces}
 use Rattle.lucchesi_younger.specs.Kept.{at, IsArc, IsIn, IsKept, AllKept, IsLate, level}
 use Rattle.lucchesi_younger.specs.Ways.{IsWay, arcs_taken, arcs_left, jumps_of, IsExchanged}
-use Rattle.lucchesi_younger.proofs.Booleans.{not-true}
 use Rattle.lucchesi_younger.proofs.Joins.{entered, entered-weighed, joins-weighed, occurs-same, occurs-other, picked-in, picked-from_in, one-arc}
 use Rattle.lucchesi_younger.proofs.Levels.{level-in, level-out, has-level, is-level}
 use Rattle.lucchesi_younger.proofs.Order.{jumps_keep, jumps_level}

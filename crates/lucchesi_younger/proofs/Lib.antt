@@ -1,4 +1,3 @@
-pub mod Booleans
 pub mod Weighed
 pub mod Joins
 pub mod WayCounts

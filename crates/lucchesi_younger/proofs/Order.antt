@@ -1,5 +1,5 @@
 -- The jumps of a way, by potential and within one potential from its end to its start, can be exchanged.
-use Rattle.std.specs.Prelude.{ℕ, ◌≡◌, ◌+◌, ◌<◌, ◌≤◌, Bool, not, ◌&&◌, List, [], ◌∷◌, length, slice_index_or, count_by, All}
+use Rattle.std.specs.Prelude.{ℕ, ◌≡◌, ◌+◌, ◌<◌, ◌≤◌, Bool, List, [], ◌∷◌, length, slice_index_or, count_by, All}
 use Rattle.std.proofs.Common.{sym, ◌∙◌, arith, inl, inr}
 use Rattle.std.proofs.lemmas.Bool.{cases_lt}
 use Rattle.std.proofs.lemmas.List.Elements.{All-weaker, All-head, All-tail}
@@ -9,7 +9,7 @@ use Rattle.graph_core.proofs.Counting.{weight, sum_by-add, sum_by-agree}
 use Rattle.problem_defs.specs.Dijoin.{IsClosed}
 use Rattle.dicut_lattice.specs.Tight.{joins, IsAllowed, AreSeparated}
 use Rattle.dicut_lattice.specs.Exchange.{AreInOrder, raises, lowers, raised, lowered}
-use Rattle.dicut_lattice.proofs.Exchanged.{exchange-law}
+use Rattle.dicut_lattice.proofs.Exchanged.{exchange-law, jump_counts}
 use Rattle.lucchesi_younger.specs.Kept.{at, IsKept}
 use Rattle.lucchesi_younger.specs.Ways.{IsWay, jumps_of}
 use Rattle.lucchesi_younger.proofs.Sorted as order
@@ -17,14 +17,11 @@ use Rattle.lucchesi_younger.proofs.WayLaws as way
 use Rattle.lucchesi_younger.specs.declared.work.Step.{Step}
 use Rattle.lucchesi_younger.specs.declared.work.Work.{Work}
 
-one_jump : (a b : Bool) → weight (b && not a) + weight a ≡ weight (a && not b) + weight b
-one_jump a b = grind arith
-
 -- what jumps change at a side, as a difference of two counts
 raised-lowered : (U : List Bool) (js : List (ℕ × ℕ)) → lowered U js + count_by (λ p. has U p.0) js ≡ raised U js + count_by (λ p. has U p.1) js
 raised-lowered U js =
     sym (sum_by-add (λ p. weight (lowers U p)) (λ p. weight (has U p.0)) js)
-    ∙ sum_by-agree (λ p. weight (lowers U p) + weight (has U p.0)) (λ p. weight (raises U p) + weight (has U p.1)) js (λ i d l. let p = slice_index_or js i d in one_jump (has U p.0) (has U p.1))
+    ∙ sum_by-agree (λ p. weight (lowers U p) + weight (has U p.0)) (λ p. weight (raises U p) + weight (has U p.1)) js (λ i d l. let p = slice_index_or js i d in jump_counts (has U p.0) (has U p.1))
     ∙ sum_by-add (λ p. weight (raises U p)) (λ p. weight (has U p.1)) js
 
 module _ (g : GraphValue) (w : Work) (late : ℕ) (k : IsKept g w late) where

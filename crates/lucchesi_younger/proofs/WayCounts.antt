@@ -1,5 +1,5 @@
 -- What a way of forcing steps changes at a closed side.
-use Rattle.std.specs.Prelude.{ℕ, ◌≡◌, ◌+◌, Bool, false, not, ◌&&◌, List, [], ◌∷◌, count_by, refl}
+use Rattle.std.specs.Prelude.{ℕ, ◌≡◌, ◌+◌, Bool, false, List, [], ◌∷◌, count_by, refl}
 use Rattle.std.proofs.Common.{ap, arith}
 use Rattle.graph_core.specs.Graph.{GraphValue}
 use Rattle.graph_core.specs.Side.{has}
@@ -7,6 +7,7 @@ use Rattle.graph_core.specs.Lines.{enters, leaves}
 use Rattle.graph_core.specs.declared.graph.Line.{Line}
 use Rattle.graph_core.proofs.Counting.{weight, passes, none-pass, All-slice_get}
 use Rattle.problem_defs.specs.Dijoin.{IsClosed}
+use Rattle.dicut_lattice.proofs.Pieces.{enters_is}
 use Rattle.lucchesi_younger.specs.Kept.{IsArc}
 use Rattle.lucchesi_younger.specs.Forcing.{Forces}
 use Rattle.lucchesi_younger.specs.Ways.{IsWay, taken_by, left_by, jump_by, arcs_taken, arcs_left, jumps_of}
@@ -17,13 +18,10 @@ use Rattle.lucchesi_younger.specs.declared.work.By.TheVariants.{Taken, Left, Jum
 use Rattle.lucchesi_younger.specs.declared.work.Step.{Step}
 use Rattle.lucchesi_younger.specs.declared.work.Work.{Work}
 
-closed_ends : (a b : Bool) → (a && not b) ≡ false → weight b ≡ weight a + weight (b && not a)
-closed_ends a b h = grind arith
-
 -- a closed side holds the head of an arc where it holds the tail or the arc enters it
 pub closed_line : (g : GraphValue) (U : List Bool) → IsClosed g U → (j : ℕ) (l : Line) → IsArc g.lines j l → weight (has U l.head) ≡ weight (has U l.tail) + weight (enters U l)
 closed_line g U c j l arc =
-    closed_ends (has U l.tail) (has U l.head) (All-slice_get (λ k. leaves U k ≡ false) g.lines (none-pass (leaves U) g.lines c.closed) j l arc)
+    omega (arith, enters_is (has U l.tail) (has U l.head) (All-slice_get (λ k. leaves U k ≡ false) g.lines (none-pass (leaves U) g.lines c.closed) j l arc))
 
 module _ (g : GraphValue) (w : Work) (late : ℕ) (U : List Bool) (c : IsClosed g U) where
   step_count : (by : By) (u v : ℕ) → Forces g w late by u v → weight (has U u) + weight (passes (entered g U) (left_by by)) + weight (passes (λ p. has U p.0) (jump_by by u v)) ≡ weight (has U v) + weight (passes (entered g U) (taken_by by)) + weight (passes (λ p. has U p.1) (jump_by by u v))

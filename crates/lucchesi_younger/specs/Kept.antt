@@ -1,8 +1,7 @@
 -- The conditions that the work keeps. No public clause cites it.
-use Rattle.std.specs.Prelude.{ℕ, ◌≡◌, ◌≢◌, ◌+◌, ◌<◌, ◌≤◌, false, Bool, List, length, map, slice_get, slice_index_or, Some, sum, sum_by, min, cond, All}
+use Rattle.std.specs.Prelude.{ℕ, ◌≡◌, ◌≢◌, ◌+◌, ◌<◌, ◌≤◌, false, Bool, List, length, map, slice_get, slice_index_or, Some, sum, sum_by, min, All}
 use Rattle.std.proofs.Common.{leb}
 use Rattle.graph_core.specs.Graph.{GraphValue}
-use Rattle.graph_core.specs.Lines.{enters}
 use Rattle.graph_core.specs.Picked.{occurrences}
 use Rattle.graph_core.specs.declared.graph.Line.{Line}
 use Rattle.problem_defs.specs.Dijoin.{IsFeasible, IsClosed}
@@ -57,11 +56,6 @@ pub record IsSolved (g : GraphValue) (costs join : List ℕ) (sides : List (List
   pub members : All (IsClosed g) sides
   pub apart : (j : ℕ) (l : Line) → IsArc g.lines j l → l.fixed ≡ false → entered_by l sides ≤ at costs j
   pub equal : sum_by (at costs) join ≡ length sides
-
--- tight sides, of which each arc enters as many as it enters L: one or none
-pub record AreLayer (g : GraphValue) (join : List ℕ) (L : List Bool) (P : List (List Bool)) : Type 0 where
-  pub tight : All (IsTight g join) P
-  pub entered : All (λ l. entered_by l P ≡ cond (enters L l) 1 0) g.lines
 
 -- the pieces of the levels up to i: an arc enters one for each of these levels that it enters
 pub record IsBuilt (g : GraphValue) (w : Work) (i : ℕ) (sides : List (List Bool)) : Type 0 where

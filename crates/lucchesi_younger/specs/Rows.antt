@@ -12,7 +12,7 @@ row rows v = slice_index_or rows v None
 abbrev pub HasRow : List (Option (List Bool)) → ℕ → Type 0
 HasRow rows v = (K : List Bool) × (row rows v ≡ Some K)
 
--- K has the nodes to which a jump from y is allowed
+-- K is the kernel of y: it has the nodes to which a jump from y is allowed. Unlike IsKernel it names no tight side for each other node, since a ghost field holds only what has one proof at most.
 pub record AreAllowed (g : GraphValue) (join : List ℕ) (y : ℕ) (K : List Bool) : Type 0 where
   pub long : length K ≡ length g.names
   pub inside : (x : ℕ) → has K x ≡ true → IsAllowed g join x y

@@ -1,5 +1,6 @@
-ghost use Rattle.std.specs.Prelude.{◌≡◌, ◌+◌, ◌++◌, ℕ, ◌<◌, ◌≤◌, length, IfOk, OnOk};
-ghost use Rattle.lucchesi_younger.specs.Kept.{at, AllKept, AreLayer, IsBuilt, level};
+ghost use Rattle.std.specs.Prelude.{◌≡◌, ◌⊎◌, ◌++◌, ℕ, ◌<◌, ◌≤◌, length, IfOk, OnOk};
+ghost use Rattle.lucchesi_younger.specs.Kept.{at, AllKept, IsBuilt, level};
+ghost use Rattle.dicut_lattice.specs.Level.{ArePieces};
 ghost use Rattle.graph_core.specs.Limits.{node_room};
 
 use crate::work::Work;
@@ -7,9 +8,10 @@ use dicut_lattice::Tight;
 use graph_core::{Counts, Graph, NoMemory, Side, Sides};
 use std::alloc::Global;
 
-/// The greatest of some counts.
+/// The greatest of some counts, or 0 if there is none.
 fn greatest(counts: &Counts) -> u64
-    ensures { (v : ℕ) → at counts.now v ≤ result }
+    ensures most { (v : ℕ) → at counts.now v ≤ result }
+    ensures reached { (v : ℕ) × (at counts.now v ≡ result) }
 {
     let mut most = 0;
     let items = counts.as_slice();
@@ -38,6 +40,7 @@ fn next_above(counts: &Counts, below: u64, most: u64) -> u64
     requires { below < most }
     ensures more { below < result }
     ensures least { (v : ℕ) → below < at counts.now v → result ≤ at counts.now v }
+    ensures reached { (result ≡ most) ⊎ ((v : ℕ) × (at counts.now v ≡ result)) }
 {
     let mut least = most;
     let items = counts.as_slice();
@@ -72,7 +75,7 @@ fn pieces_at(
     requires tight { tight.old ≡ record { graph = graph.now; join = work.now.join } }
     requires some { 1 ≤ least }
     ensures tight { OnOk result (tight.new ≡ tight.old) }
-    ensures pieces { IfOk result (AreLayer graph.now work.now.join (level work.now.potential least)) }
+    ensures pieces { IfOk result (ArePieces graph.now work.now.join (level work.now.potential least)) }
 {
     graph.known();
     let level = level_of(alloc, &work.potential, least)?;

@@ -1,4 +1,4 @@
-ghost use Rattle.std.specs.Prelude.{◌≡◌, ◌+◌, ◌++◌, ◌∷◌, [], ℕ, ◌<◌, ◌≤◌, length, replicate, IfOk, OnOk, true, false, slice_set};
+ghost use Rattle.std.specs.Prelude.{◌≡◌, ◌++◌, ◌∷◌, [], ℕ, ◌<◌, ◌≤◌, length, replicate, IfOk, OnOk, true, false, slice_set};
 ghost use Rattle.lucchesi_younger.specs.Search.{node};
 ghost use Rattle.graph_core.specs.Limits.{side_room};
 

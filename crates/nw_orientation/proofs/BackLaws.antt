@@ -1,7 +1,7 @@
 -- Directions of the split graph, led back through the node, keep the digraph k-arc-connected.
 use Rattle.std.specs.Prelude.{ℕ, suc, ◌≡◌, ◌≢◌, ◌+◌, ◌<◌, ◌≤◌, ◌==◌, Bool, true, false, not, ◌&&◌, ◌||◌, cond, List, [], ◌∷◌, ◌++◌, length, drop, map, sum_by, count_by, All, refl}
 use Rattle.std.proofs.Common.{sym, ap, ◌∙◌, arith, inl, inr, ◌⊎◌}
-use Rattle.std.proofs.lemmas.Bool.{false≢true, cases_Bool, cases_eq, eqb-true, eq-eqb, ne_eqb}
+use Rattle.std.proofs.lemmas.Bool.{false≢true, cases_Bool, cases_eq, eqb-true, eq-eqb, ne_eqb, not-true, not-false}
 use Rattle.std.proofs.lemmas.List.{length-map}
 use Rattle.std.proofs.lemmas.List.Elements.{All-nil, All-cons, All-weaker, All-head, All-tail}
 use Rattle.graph_core.specs.Connected.{IsArcConnected}
@@ -258,18 +258,12 @@ led_back z q lz ls fits pairs low each hs turns long claimed k many conn X p =
                 let (v, lv, in') = node_in X p in
                 let ne : v ≢ z = λ e. false≢true (sym here ∙ ap (has X) (sym e) ∙ in') in
                 let lu : u < q = omega (arith, has-below N u hu, length_of q (λ w. not (has X (cond (w == z) q w)))) in
-                let proper = is_proper I (moved z q v) u I_long (has-left z q (has X) v lz (omega arith) ne ∙ in') lu (turn_not (has I u) (sym (outside_not z q lz X u lu) ∙ hu)) in
+                let proper = is_proper I (moved z q v) u I_long (has-left z q (has X) v lz (omega arith) ne ∙ in') lu (not-true (has I u) (sym (outside_not z q lz X u lu) ∙ hu)) in
                 omega (arith, conn I proper, entering-led q I (λ a. has I a.head) (λ l lt lh. weight-and (has I l.head) (not (has I l.tail))) pairs gs low)
             | inr none ↦
-                omega (arith, length-led pairs gs, count-all (λ a. has I a.head) (led pairs gs) (All-weaker (λ l. (l.tail < q) × (l.head < q)) (λ a. has I a.head ≡ true) (λ a l. turn_not' (has I a.head) (sym (outside_not z q lz X a.head l.1) ∙ none a.head)) (led pairs gs) all_low))
+                omega (arith, length-led pairs gs, count-all (λ a. has I a.head) (led pairs gs) (All-weaker (λ l. (l.tail < q) × (l.head < q)) (λ a. has I a.head ≡ true) (λ a l. not-false (has I a.head) (sym (outside_not z q lz X a.head l.1) ∙ none a.head)) (led pairs gs) all_low))
           ]
     ]
   where
     weaker : (a b : Bool) → weight (a && not b) ≤ weight (not b)
     weaker a b = grind arith
-
-    turn_not : (b : Bool) → not b ≡ true → b ≡ false
-    turn_not b = grind arith
-
-    turn_not' : (b : Bool) → not b ≡ false → b ≡ true
-    turn_not' b = grind arith

@@ -9,3 +9,4 @@ pub mod StarLaws
 pub mod TightNode
 pub mod Weaving
 pub mod Whole
+pub mod ThinLaws

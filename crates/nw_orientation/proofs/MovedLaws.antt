@@ -1,12 +1,13 @@
 -- A side, its edges and its degree, when a node is taken out of the graph.
 use Rattle.std.specs.Prelude.{ℕ, ◌≡◌, ◌≢◌, ◌+◌, ◌<◌, ◌≤◌, ◌==◌, Bool, true, false, not, ◌||◌, cond, List, count_by, All, refl}
 use Rattle.std.proofs.Common.{sym, ap, ◌∙◌, arith, inl, inr}
-use Rattle.std.proofs.lemmas.Bool.{false≢true, cases_eq, eqb-true, eq-eqb, ne_eqb}
+use Rattle.std.proofs.lemmas.Bool.{false≢true, cases_eq, eqb-true, eq-eqb, ne_eqb, not-true, not-false, or_right}
 use Rattle.std.proofs.lemmas.List.{length-map}
 use Rattle.std.proofs.lemmas.List.Elements.{All-weaker}
 use Rattle.graph_core.specs.Graph.{Fits}
 use Rattle.graph_core.specs.Lines.{crosses, differ, degree}
 use Rattle.graph_core.specs.Side.{has}
+use Rattle.graph_core.proofs.CutLaws.{differ_sym}
 use Rattle.graph_core.proofs.Counting.{weight, sum_by-agree, All-both}
 use Rattle.graph_core.proofs.FamilyLaws.{count_by-map}
 use Rattle.graph_core.specs.declared.graph.Line.{Line}
@@ -53,26 +54,17 @@ apart_from z q l f h = record {
   tail = omega (arith, f.tail);
   head = omega (arith, f.head);
   tail_not = λ e. false≢true (sym h ∙ rw (e, same z) refl);
-  head_not = λ e. false≢true (sym h ∙ rw (e, same z) (or_true (l.tail == z)));
+  head_not = λ e. false≢true (sym h ∙ rw (e, same z) (or_right (l.tail == z) true refl));
   two = f.apart;
 }
-  where
-    or_true : (b : Bool) → (b || true) ≡ true
-    or_true b = grind arith
 
 pub far_apart : (z q : ℕ) (ls : List Line) → All (Fits (q + 1)) ls → All (IsApart z q) (chosen true ls (apart_marks z ls))
 far_apart z q ls fits =
-    All-both (Fits (q + 1)) (λ l. not (touches z l) ≡ true) (IsApart z q) (λ l f h. apart_from z q l f (not_true (touches z l) h)) (chosen true ls (apart_marks z ls)) (All-chosen (Fits (q + 1)) true ls (apart_marks z ls) fits) (chosen_pass (λ l. not (touches z l)) ls)
-  where
-    not_true : (b : Bool) → not b ≡ true → b ≡ false
-    not_true b = grind arith
+    All-both (Fits (q + 1)) (λ l. not (touches z l) ≡ true) (IsApart z q) (λ l f h. apart_from z q l f (not-true (touches z l) h)) (chosen true ls (apart_marks z ls)) (All-chosen (Fits (q + 1)) true ls (apart_marks z ls) fits) (chosen_pass (λ l. not (touches z l)) ls)
 
 pub near_touch : (z q : ℕ) (ls : List Line) → All (Fits (q + 1)) ls → All (IsSpoke z q) (spokes z ls)
 near_touch z q ls fits =
-    All-both (Fits (q + 1)) (λ l. not (touches z l) ≡ false) (IsSpoke z q) (λ l f h. record { fits = f; touching = not_false (touches z l) h }) (spokes z ls) (All-chosen (Fits (q + 1)) false ls (apart_marks z ls) fits) (chosen_fail (λ l. not (touches z l)) ls)
-  where
-    not_false : (b : Bool) → not b ≡ false → b ≡ true
-    not_false b = grind arith
+    All-both (Fits (q + 1)) (λ l. not (touches z l) ≡ false) (IsSpoke z q) (λ l f h. record { fits = f; touching = not-false (touches z l) h }) (spokes z ls) (All-chosen (Fits (q + 1)) false ls (apart_marks z ls) fits) (chosen_fail (λ l. not (touches z l)) ls)
 
 module _ (z q : ℕ) (lz : z ≤ q) where
   pub tail-left : (f : ℕ → Bool) (l : Line) → IsApart z q l → has (left z q f) (moved_line z q l).tail ≡ f l.tail
@@ -109,12 +101,9 @@ module _ (z q : ℕ) (lz : z ≤ q) where
             rw (e, same z) (has-left z q test l.head lz (omega (arith, f.head)) (λ h. f.apart (e ∙ sym h)))
         | inr ne ↦
             let head : l.head ≡ z = at_head l.tail l.head ne h in
-            rw (ne_eqb l.tail z ne) (has-left z q test l.tail lz (omega (arith, f.tail)) ne ∙ rw head (differ_turned (has X z) (has X l.tail)))
+            rw (ne_eqb l.tail z ne) (has-left z q test l.tail lz (omega (arith, f.tail)) ne ∙ rw head (differ_sym (has X z) (has X l.tail)))
       ]
     where
-      differ_turned : (a b : Bool) → differ a b ≡ differ b a
-      differ_turned a b = grind arith
-
       at_head : (t h : ℕ) → t ≢ z → ((t == z) || (h == z)) ≡ true → h ≡ z
       at_head t h ne e = eqb-true h z (rw (ne_eqb t z ne) at e)
 

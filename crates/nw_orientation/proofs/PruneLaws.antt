@@ -12,13 +12,22 @@ use Rattle.graph_core.proofs.CutLaws.{degree-complement, other_out, other_in}
 use Rattle.graph_core.proofs.SideLaws.{has-complement}
 use Rattle.graph_core.specs.declared.graph.Line.{Line}
 use Rattle.nw_orientation.specs.Chosen.{chosen}
-use Rattle.nw_orientation.specs.Joined.{AreJoined, AreParted}
+use Rattle.nw_orientation.specs.Joined.{AreEdgeJoined, AreParted}
 use Rattle.nw_orientation.specs.Moved.{touches}
 use Rattle.nw_orientation.specs.Needed.{IsNeeded, HasBareEnd, IsLean, IsPrunedTo, AreNeeded}
+use Rattle.nw_orientation.specs.Thin.{IsThin}
 use Rattle.nw_orientation.proofs.ChosenLaws.{chosen-each, count-unmarked, All-chosen, All-marked}
 use Rattle.graph_core.proofs.SetLaws.{length_of}
 use Rattle.graph_core.proofs.ProperLaws.{is_proper}
 use Rattle.nw_orientation.proofs.TightNode.{only, has-only_here, has-only_other, crosses-only, degree-only}
+
+-- forests, and none known as needed
+pub pruned_thin : (n c : ℕ) (ls : List Line) (ms : List Bool) → IsThin c ls ms → IsEdgeConnected c n ls → IsPrunedTo n c ls 0 ms
+pruned_thin n c ls ms thin conn = record {
+  long = thin.long;
+  connected = λ X p. elim (thin.keeps X) [ inl enough ↦ enough | inr all ↦ omega (arith, conn X p) ];
+  needed = λ i d lj l m. absurd (omega arith);
+}
 
 -- all marked, and those before j known as needed
 pub pruned_none : (n c : ℕ) (ls : List Line) (j : ℕ) (ms : List Bool) → ms ≡ replicate (length ls) true → IsEdgeConnected c n ls → AreNeeded n c ls j → IsPrunedTo n c ls j ms
@@ -30,7 +39,6 @@ pruned_none n c ls j ms is conn needed =
       long = long;
       connected = subst (IsEdgeConnected c n) (sym all) conn;
       needed = λ i d lj l m. subst (λ ks. IsNeeded n c ks (slice_index_or ls i d)) (sym all) (needed i d lj l);
-      untried = λ i lj l. each i l;
     }
 
 -- an edge that is spared: what was needed stays needed
@@ -41,21 +49,18 @@ needed_less n c ls ks l less conn need = record {
   crossed = need.crossed;
 }
 
-module _ (n c : ℕ) (ls : List Line) (j : ℕ) (ms : List Bool) (d : Line) (pruned : IsPrunedTo n c ls j ms) (lj : j < length ls) (all : All (Fits n) ls) where
+module _ (n c : ℕ) (ls : List Line) (j : ℕ) (ms : List Bool) (d : Line) (pruned : IsPrunedTo n c ls j ms) (lj : j < length ls) (here : has ms j ≡ true) (all : All (Fits n) ls) where
   fits : Fits n (slice_index_or ls j d)
   fits = all j d lj
 
   abbrev line : Line
   line = slice_index_or ls j d
 
-  here : has ms j ≡ true
-  here = pruned.untried j (omega arith) lj
-
   less : (X : List Bool) → degree X (chosen true ls (slice_set ms j false)) + weight (crosses X line) ≡ degree X (chosen true ls ms)
   less X = count-unmarked (crosses X) ls ms j d pruned.long lj here
 
   -- it is spared where its ends are still joined
-  pub pruned_less : AreJoined n (chosen true ls (slice_set ms j false)) line.tail line.head c → IsPrunedTo n c ls (j + 1) (slice_set ms j false)
+  pub pruned_less : AreEdgeJoined n (chosen true ls (slice_set ms j false)) line.tail line.head c → IsPrunedTo n c ls (j + 1) (slice_set ms j false)
   pruned_less joined =
       let conn : IsEdgeConnected c n (chosen true ls (slice_set ms j false)) = λ X p.
       elim (cases_Bool (crosses X line)) [
@@ -74,7 +79,6 @@ module _ (n c : ℕ) (ls : List Line) (j : ℕ) (ms : List Bool) (d : Line) (pru
               | inr other ↦ needed_less n c (chosen true ls ms) (chosen true ls (slice_set ms j false)) (slice_index_or ls i e) (λ X. omega (arith, less X)) conn
                   (pruned.needed i e (omega arith) l (sym (get_or-set_other ms j i false false other) ∙ m))
             ];
-        untried = λ i li l. get_or-set_other ms j i false false (λ h. absurd (omega arith)) ∙ pruned.untried i (omega arith) l;
       }
     where
       joined_back : (X : List Bool) → IsProper n X → has X line.tail ≡ false → has X line.head ≡ true → c ≤ degree X (chosen true ls (slice_set ms j false))
@@ -89,9 +93,9 @@ module _ (n c : ℕ) (ls : List Line) (j : ℕ) (ms : List Bool) (d : Line) (pru
   -- and kept where they aren't
   pub pruned_kept : AreParted n (chosen true ls (slice_set ms j false)) line.tail line.head c → IsPrunedTo n c ls (j + 1) ms
   pruned_kept (X, s) =
-      let proper = is_proper X line.tail line.head s.long s.holds fits.head s.misses in
+      let proper = s.cut.proper in
       let crossed : crosses X line ≡ true = rw (s.holds, s.misses) refl in
-      let need : IsNeeded n c (chosen true ls ms) line = record { side = X; tight = record { proper = proper; value = omega (arith, less X, ap weight crossed, s.few, pruned.connected X proper) }; crossed = crossed } in
+      let need : IsNeeded n c (chosen true ls ms) line = record { side = X; tight = record { proper = proper; value = omega (arith, less X, ap weight crossed, s.cut.few, pruned.connected X proper) }; crossed = crossed } in
       record {
         long = pruned.long;
         connected = pruned.connected;
@@ -99,8 +103,18 @@ module _ (n c : ℕ) (ls : List Line) (j : ℕ) (ms : List Bool) (d : Line) (pru
           | inl same ↦ rw same (subst (IsNeeded n c (chosen true ls ms)) (get_or_default ls j d e lj) need)
           | inr other ↦ pruned.needed i e (omega arith) l m
         ];
-        untried = λ i li l. pruned.untried i (omega arith) l;
       }
+
+-- an edge that isn't marked
+pub pruned_unmarked : (n c : ℕ) (ls : List Line) (j : ℕ) (ms : List Bool) → IsPrunedTo n c ls j ms → has ms j ≡ false → IsPrunedTo n c ls (j + 1) ms
+pruned_unmarked n c ls j ms pruned off = record {
+  long = pruned.long;
+  connected = pruned.connected;
+  needed = λ i e li l m. elim (cases_eq i j) [
+    | inl same ↦ absurd (false≢true (sym off ∙ (rw same at m)))
+    | inr other ↦ pruned.needed i e (omega arith) l m
+  ];
+}
 
 -- an end of a line, and the other one
 at_end : (n v : ℕ) (l : Line) → Fits n l → touches v l ≡ true → (v < n) × ((u : ℕ) × (u < n) × (u ≢ v))
@@ -133,7 +147,6 @@ pruned_bare n c ls j ms d pruned lj all bare =
         | inl same ↦ rw same (subst (IsNeeded n c live) (get_or_default ls j d e lj) need)
         | inr other ↦ pruned.needed i e (omega arith) l m
       ];
-      untried = λ i li l. pruned.untried i (omega arith) l;
     }
 
 -- in the end

@@ -6,16 +6,17 @@ use Rattle.std.proofs.lemmas.List.{length-replicate}
 use Rattle.std.proofs.lemmas.List.Elements.{All-map, All-weaker}
 use Rattle.std.proofs.lemmas.List.Sums.{sum_by-append}
 use Rattle.graph_core.specs.Connected.{IsEdgeConnected}
-use Rattle.graph_core.specs.Graph.{Fits, line_of, lines_of}
+use Rattle.graph_core.specs.Graph.{Fits, lines_of}
 use Rattle.graph_core.specs.Lines.{crosses, differ, degree}
 use Rattle.graph_core.specs.Picked.{occurrences}
 use Rattle.graph_core.specs.Side.{has, sum_over, IsProper}
 use Rattle.graph_core.proofs.CutLaws.{other_out, other_in}
 use Rattle.graph_core.proofs.Counting.{weight, All-both, count-all}
-use Rattle.graph_core.proofs.HeadLaws.{nodes_add, nodes_named}
+use Rattle.graph_core.proofs.HeadLaws.{nodes_named}
 use Rattle.graph_core.proofs.SizeLaws.{count-cons}
 use Rattle.graph_core.specs.declared.graph.Line.{Line}
 use Rattle.split_undirected.specs.Split.{ends_at}
+use Rattle.split_undirected.proofs.SplitLaws.{pairs_ends_in, degree-pairs}
 use Rattle.nw_orientation.specs.Chosen.{chosen}
 use Rattle.nw_orientation.specs.Moved.{moved, moved_line, touches, other_end, apart_marks, others, spokes, spoke_ends}
 use Rattle.nw_orientation.specs.Needed.{IsNeeded}
@@ -71,27 +72,6 @@ sum-ends cs ends each low =
     let all = replicate (length cs) true in
     sym (nodes_all cs) ∙ count_ends cs ends all (length-replicate (length cs) true) each
     ∙ count-all (has all) ends (All-weaker (λ w. w < length cs) (λ w. has all w ≡ true) (λ w l. has-whole (length cs) w l) ends low)
-
--- the ends of pairs in a side
-pub pairs_ends_in : (Y : List Bool) (pairs : List (ℕ × ℕ)) → sum_over Y (λ v. ends_at v pairs) ≡ count_by (λ p. has Y p.0) pairs + count_by (λ p. has Y p.1) pairs
-pairs_ends_in Y pairs =
-    nodes_add (λ v. count_by (λ p. p.0 == v) pairs) (λ v. count_by (λ p. p.1 == v) pairs) Y
-    ∙ (λ i. nodes_named (λ p. p.0) Y pairs i + nodes_named (λ p. p.1) Y pairs i)
-
-pair_crosses : (a b : Bool) → weight (differ a b) ≤ weight a + weight b
-pair_crosses a b = grind arith
-
--- a pair that crosses Y has an end in it
-pub degree-pairs : (Y : List Bool) (pairs : List (ℕ × ℕ)) → degree Y (lines_of (apart pairs)) ≤ count_by (λ p. has Y p.0) pairs + count_by (λ p. has Y p.1) pairs
-degree-pairs Y [] = omega arith
-degree-pairs Y (p ∷ pairs) =
-    let rest = degree-pairs Y pairs in
-    let crossing = pair_crosses (has Y p.0) (has Y p.1) in
-    rw (count-cons (λ r. has Y r.0) p pairs, count-cons (λ r. has Y r.1) p pairs)
-    (elim (p.0 == p.1) as (λ b. degree Y (lines_of (cond (not b) (p ∷ apart pairs) (apart pairs))) ≤ weight (has Y p.0) + count_by (λ r. has Y r.0) pairs + (weight (has Y p.1) + count_by (λ r. has Y r.1) pairs)) [
-      | true ↦ omega arith
-      | false ↦ omega (arith, count-cons (crosses Y) (line_of p) (lines_of (apart pairs)))
-    ])
 
 -- the lines of z
 pub length-spokes : (z : ℕ) (ls : List Line) → length (spokes z ls) ≡ count_by (touches z) ls

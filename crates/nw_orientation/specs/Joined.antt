@@ -6,25 +6,24 @@ use Rattle.graph_core.specs.Side.{has, IsProper}
 use Rattle.graph_core.specs.declared.graph.Line.{Line}
 
 -- each side that holds a and misses b has at least c edges
-abbrev pub AreJoined : ℕ → List Line → ℕ → ℕ → ℕ → Type 0
-AreJoined n ls a b c = (X : List Bool) → length X ≡ n → has X a ≡ true → has X b ≡ false → c ≤ degree X ls
-
--- a side that holds a and misses b with fewer than c edges
-pub record IsShort (n : ℕ) (ls : List Line) (a b c : ℕ) (X : List Bool) : Type 0 where
-  pub long : length X ≡ n
-  pub holds : has X a ≡ true
-  pub misses : has X b ≡ false
-  pub few : degree X ls < c
-
-abbrev pub AreParted : ℕ → List Line → ℕ → ℕ → ℕ → Type 0
-AreParted n ls a b c = (X : List Bool) × IsShort n ls a b c X
+abbrev pub AreEdgeJoined : ℕ → List Line → ℕ → ℕ → ℕ → Type 0
+AreEdgeJoined n ls a b c = (X : List Bool) → length X ≡ n → has X a ≡ true → has X b ≡ false → c ≤ degree X ls
 
 -- a proper side with fewer than c edges
-pub record IsSparse (n : ℕ) (ls : List Line) (c : ℕ) (X : List Bool) : Type 0 where
+pub record IsSparseCut (n : ℕ) (ls : List Line) (c : ℕ) (X : List Bool) : Type 0 where
   pub proper : IsProper n X
   pub few : degree X ls < c
 
--- such a side, or none where there is none
-abbrev pub FindsSparse : ℕ → List Line → ℕ → Option (List Bool) → Type 0
-FindsSparse n ls c (Some X) = IsSparse n ls c X
-FindsSparse n ls c None = IsEdgeConnected c n ls
+-- such a side, which holds a and misses b
+pub record PartsSparsely (n : ℕ) (ls : List Line) (a b c : ℕ) (X : List Bool) : Type 0 where
+  pub cut : IsSparseCut n ls c X
+  pub holds : has X a ≡ true
+  pub misses : has X b ≡ false
+
+abbrev pub AreParted : ℕ → List Line → ℕ → ℕ → ℕ → Type 0
+AreParted n ls a b c = (X : List Bool) × PartsSparsely n ls a b c X
+
+-- a sparse side, or none where there is none
+abbrev pub FindsSparseCut : ℕ → List Line → ℕ → Option (List Bool) → Type 0
+FindsSparseCut n ls c (Some X) = IsSparseCut n ls c X
+FindsSparseCut n ls c None = IsEdgeConnected c n ls

@@ -24,17 +24,21 @@ pub record HasBareEnd (c : ℕ) (ls : List Line) (l : Line) : Type 0 where
   pub touching : touches node l ≡ true
   pub few : count_by (touches node) ls ≤ c
 
+-- both ends of the line have more than c lines
+pub record HasSpareEnds (c : ℕ) (ls : List Line) (l : Line) : Type 0 where
+  pub tail : c < count_by (touches l.tail) ls
+  pub head : c < count_by (touches l.head) ls
+
 -- c-edge-connected lines, none of which can be deleted
 pub record IsLean (n c : ℕ) (ls : List Line) : Type 0 where
   pub connected : IsEdgeConnected c n ls
   pub needed : All (IsNeeded n c ls) ls
 
--- the marked lines are c-edge-connected; of those before j each marked one is needed, and from j on each line is marked
+-- the marked lines are c-edge-connected, and each marked one before j is needed
 pub record IsPrunedTo (n c : ℕ) (ls : List Line) (j : ℕ) (ms : List Bool) : Type 0 where
   pub long : length ms ≡ length ls
   pub connected : IsEdgeConnected c n (chosen true ls ms)
   pub needed : (i : ℕ) (d : Line) → i < j → i < length ls → has ms i ≡ true → IsNeeded n c (chosen true ls ms) (slice_index_or ls i d)
-  pub untried : (i : ℕ) → j ≤ i → i < length ls → has ms i ≡ true
 
 -- none of the lines before j can be deleted
 abbrev pub AreNeeded : ℕ → ℕ → List Line → ℕ → Type 0

@@ -1,41 +1,15 @@
-ghost use Rattle.std.specs.Prelude.{◌≡◌, ◌<◌, ◌≤◌, List, length, true, false, All, IfOk};
+ghost use Rattle.std.specs.Prelude.{◌≡◌, ◌<◌, ◌≤◌, length, true, false, All, IfOk};
 ghost use Rattle.graph_core.specs.Limits.{line_room, node_room};
 ghost use Rattle.graph_core.specs.Graph.{Fits};
 ghost use Rattle.graph_core.specs.declared.graph.Kind.TheVariants.{Undirected};
-ghost use Rattle.flow_cuts.specs.GraphArcs.{arcs_of};
-ghost use Rattle.graph_core.specs.declared.graph.Line.{Line as LineOf};
-ghost use Rattle.nw_orientation.specs.Joined.{AreJoined, AreParted, IsShort, FindsSparse};
+ghost use Rattle.nw_orientation.specs.Joined.{AreEdgeJoined, AreParted, FindsSparseCut};
 
-use flow_cuts::{Flow, edge_arcs};
+use flow_cuts::{Flow, edge_arcs, is_parted};
 use graph_core::{Graph, Line, NoMemory, Side};
 use std::alloc::Global;
 
-/// Whether fewer than `c` of the edges leave a side that holds `a` and misses `b`. Such a side is then in `to`.
-fn is_parted(flow: &mut Flow, from: &mut Side, to: &mut Side, a: u32, b: u32, c: u64) -> bool
-    requires from { length from.old ≡ flow.old.nodes }
-    requires to { length to.old ≡ flow.old.nodes }
-    requires first { a < flow.old.nodes }
-    requires second { b < flow.old.nodes }
-    ensures nodes { flow.new.nodes ≡ flow.old.nodes }
-    ensures arcs { flow.new.arcs ≡ flow.old.arcs }
-    ensures from { length from.new ≡ length from.old }
-    ensures to { length to.new ≡ length to.old }
-    ensures yes { (ls : List LineOf) → flow.old.arcs ≡ arcs_of Undirected ls → result ≡ true → IsShort flow.old.nodes ls a b c to.new }
-    ensures no { (ls : List LineOf) → flow.old.arcs ≡ arcs_of Undirected ls → result ≡ false → AreJoined flow.old.nodes ls a b c }
-{
-    from.hold_only(a);
-    to.hold_only(b);
-    let answer = flow.run(from, to, c);
-    if answer < c {
-        flow.side(to);
-        true
-    } else {
-        false
-    }
-}
-
 /// Whether each side that holds `a` and misses `b` has at least `c` of the edges.
-pub fn are_joined(
+pub(crate) fn are_joined(
     alloc: Global,
     n: usize,
     lines: &[Line],
@@ -48,7 +22,7 @@ pub fn are_joined(
     requires ends { All (Fits n) lines.now }
     requires first { a < n }
     requires second { b < n }
-    ensures yes { IfOk result (λ joined. joined ≡ true → AreJoined n lines.now a b c) }
+    ensures yes { IfOk result (λ joined. joined ≡ true → AreEdgeJoined n lines.now a b c) }
     ensures no { IfOk result (λ joined. joined ≡ false → AreParted n lines.now a b c) }
 {
     let arcs = edge_arcs(alloc, lines)?;
@@ -60,9 +34,9 @@ pub fn are_joined(
 }
 
 /// A proper side with fewer than `c` edges, by flows from node 0 to each other node.
-pub fn sparse_side(alloc: Global, graph: &Graph, c: u64) -> Result<Option<Side>, NoMemory>
+pub(crate) fn sparse_side(alloc: Global, graph: &Graph, c: u64) -> Result<Option<Side>, NoMemory>
     requires { graph.now.kind ≡ Undirected }
-    ensures { IfOk result (FindsSparse (length graph.now.names) graph.now.lines c) }
+    ensures { IfOk result (FindsSparseCut (length graph.now.names) graph.now.lines c) }
 {
     graph.known();
     let n = graph.node_count();

@@ -5,7 +5,7 @@ ghost use Rattle.graph_core.specs.Side.{meet};
 ghost use Rattle.graph_core.specs.declared.graph.Kind.TheVariants.{Undirected};
 ghost use Rattle.problem_defs.specs.Certified.{IsCertified};
 ghost use Rattle.problem_defs.specs.Flow.{Suits};
-ghost use Rattle.flow_cuts.specs.Cuts.{IsLeastCut};
+ghost use Rattle.flow_cuts.specs.Cuts.{IsMinimumCut};
 ghost use Rattle.flow_cuts.specs.GraphArcs.{arcs_of};
 
 use crate::asserts::same;
@@ -88,7 +88,7 @@ fn follow(
 
 // Both laws together: of two least cuts of a graph of edges, the intersection is one.
 fn least_cuts_of_edges_meet(graph: &Graph)
-    ensures { (I O X Y : List Bool) (value : ℕ) → IsLeastCut (length graph.now.names) I O (arcs_of Undirected graph.now.lines) value X → IsLeastCut (length graph.now.names) I O (arcs_of Undirected graph.now.lines) value Y → IsLeastCut (length graph.now.names) I O (arcs_of Undirected graph.now.lines) value (meet X Y) }
+    ensures { (I O X Y : List Bool) (value : ℕ) → IsMinimumCut (length graph.now.names) I O (arcs_of Undirected graph.now.lines) value X → IsMinimumCut (length graph.now.names) I O (arcs_of Undirected graph.now.lines) value Y → IsMinimumCut (length graph.now.names) I O (arcs_of Undirected graph.now.lines) value (meet X Y) }
 {
     capacity_is_the_cut();
     least_cuts_meet_and_join(&EdgeCut::new(graph));

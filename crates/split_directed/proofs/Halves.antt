@@ -20,7 +20,8 @@ use Rattle.split_directed.specs.Half.{value}
 use Rattle.problem_defs.specs.Ways.{count_for}
 use Rattle.flow_cuts.specs.NewNode.{arc_by}
 use Rattle.flow_cuts.proofs.NewNodes.{capacity-arcs_by, ends-arcs_by}
-use Rattle.split_directed.specs.Ways.{counts_for, value_for, end_of, arc_of, arcs_between}
+use Rattle.flow_cuts.specs.StarValues.{counts_for, value_for}
+use Rattle.split_directed.specs.Ways.{end_of, arc_of, arcs_between}
 use Rattle.split_directed.specs.Rows.{lowered, split, copies}
 use Rattle.cut_fn.specs.Stars.{StarValue}
 use Rattle.split_directed.specs.State.{Shows}

@@ -1,5 +1,4 @@
 pub mod Halves
-pub mod LeastValues
 pub mod Mader
 pub mod Rows
 pub mod Splits

@@ -1,21 +1,23 @@
 -- Mader's theorem for a star, and what the most up to a limit says of it.
-use Rattle.std.specs.Prelude.{ℕ, suc, ◌≡◌, ◌+◌, ◌<◌, ◌≤◌, Bool, true, false, ◌&&◌, ◌||◌, cond, List, [], ◌∷◌, length, slice_index, sum, refl}
+use Rattle.std.specs.Prelude.{ℕ, ◌≡◌, ◌+◌, ◌<◌, ◌≤◌, Bool, true, false, ◌&&◌, ◌||◌, cond, List, [], length, slice_index, sum, refl}
 use Rattle.std.proofs.Common.{sym, ap, ◌∙◌, inl, inr, arith}
 use Rattle.std.proofs.lemmas.Bool.{cases_Bool, cases_lt}
-use Rattle.graph_core.specs.Side.{has, join, sum_over, IsProper}
+use Rattle.graph_core.specs.Side.{has, join, IsProper}
 use Rattle.graph_core.specs.Lines.{entering, leaving}
 use Rattle.graph_core.proofs.SideLaws.{has-zip2}
 use Rattle.cut_fn.specs.Covered.{IsTight}
 use Rattle.problem_defs.specs.declared.cert.Way.{Way}
 use Rattle.problem_defs.specs.declared.cert.Way.TheVariants.{Entering, Leaving}
 use Rattle.problem_defs.specs.Ways.{opposite}
-use Rattle.split_directed.specs.Ways.{same, counts_for, value_for, taken_in}
+use Rattle.flow_cuts.specs.StarValues.{counts_for, value_for}
+use Rattle.split_directed.specs.Ways.{same, taken_in}
 use Rattle.split_directed.specs.Allowed.{Allows, IsMost}
 use Rattle.cut_fn.specs.Stars.{StarValue, star_enter, star_leave}
-use Rattle.split_directed.specs.Least.{HasBoth, MissesCount}
+use Rattle.flow_cuts.specs.LeastOver.{HasBoth, MissesCount}
 use Rattle.split_directed.specs.State.{IsCoveredStar}
 use Rattle.split_directed.specs.Turn.{IsFewest, IsMostUpTo, IsWitness, IsLeft}
 use Rattle.graph_core.proofs.NodeCounts.{some_outside}
+use Rattle.graph_core.proofs.WeightLaws.{nodes_cover}
 use Rattle.cut_fn.proofs.Opposite.{lines_opposite}
 use Rattle.split_directed.proofs.Mader.{AreCovered, turn_about, missed_count, joined_tight, nested, missed_first, missed_second}
 use Rattle.split_directed.proofs.Splits.{Falls}
@@ -45,17 +47,12 @@ module _ {n k : ℕ} {s : StarValue} (c : IsCoveredStar n k s) where
       no_more d a more h Entering is = omega (arith, a.enters X h.proper h.first h.second, ap (λ z. value_for z s X) is, h.value_is)
       no_more d a more h Leaving is = omega (arith, a.leaves X h.proper h.first h.second, ap (λ z. value_for z s X) is, h.value_is)
 
-  nodes_empty : (f : ℕ → ℕ) (M : List Bool) → ((v : ℕ) → has M v ≡ false) → sum_over M f ≡ 0
-  nodes_empty f [] none = refl
-  nodes_empty f (true ∷ M) none = absurd (cc (none 0))
-  nodes_empty f (false ∷ M) none = omega (arith, nodes_empty (λ v. f (suc v)) M (λ v. none (suc v)))
-
   -- with equal sums a node with an arc left is outside of the witness
   pub left_outside : {t : ℕ} {w : Way} {M : List Bool} → sum s.into ≡ sum s.out → 1 ≤ slice_index s.into t → 1 ≤ sum s.into → IsWitness n k s t w M
       → (u : ℕ) × IsLeft s.out M u
   left_outside {t} {w} {M} sums some all h = elim (cases_Bool (has M t)) [
     | inl in_it ↦ found w in_it (h.tight in_it)
-    | inr out_of_it ↦ (let (u, l, out, one) = some_outside s.out M (h.long ∙ sym c.out_long) (omega (arith, nodes_empty (slice_index s.out) M (h.none out_of_it), sums)) in (u, record { below = omega (arith, h.long, c.out_long); outside = out; some = one }))
+    | inr out_of_it ↦ (let (u, l, out, one) = some_outside s.out M (h.long ∙ sym c.out_long) (omega (arith, nodes_cover (slice_index s.out) M [] (λ v x _. absurd (cc (x, h.none out_of_it v))), sums)) in (u, record { below = omega (arith, h.long, c.out_long); outside = out; some = one }))
   ]
     where
       found : (v : Way) → has M t ≡ true → IsTight n k (value_for v s) M → (u : ℕ) × IsLeft s.out M u

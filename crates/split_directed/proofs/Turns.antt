@@ -11,7 +11,8 @@ use Rattle.graph_core.proofs.NodeCounts.{size_more}
 use Rattle.graph_core.proofs.SideLaws.{has-none}
 use Rattle.cut_fn.specs.Covered.{IsTight}
 use Rattle.problem_defs.specs.declared.cert.Way.{Way}
-use Rattle.split_directed.specs.Ways.{taken_in, value_for}
+use Rattle.flow_cuts.specs.StarValues.{value_for}
+use Rattle.split_directed.specs.Ways.{taken_in}
 use Rattle.split_directed.specs.Allowed.{IsMost}
 use Rattle.split_directed.specs.Rows.{after, AreMost}
 use Rattle.cut_fn.specs.Stars.{StarValue}

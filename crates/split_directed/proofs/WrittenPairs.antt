@@ -6,10 +6,11 @@ use Rattle.std.proofs.lemmas.List.{get_or-set_other, get_or_past, length-replica
 use Rattle.std.proofs.lemmas.List.Elements.{All-nil, All-append, All-head, All-replicate, All-tail, filter-append}
 use Rattle.std.proofs.lemmas.List.Folds.{sum_by-replicate}
 use Rattle.std.proofs.lemmas.List.Sums.{sum_by-append, get_or-le-sum_by}
-use Rattle.graph_core.specs.Side.{has, sum_over}
+use Rattle.graph_core.specs.Side.{has}
 use Rattle.graph_core.specs.Graph.{line_of, lines_of}
 use Rattle.graph_core.specs.Lines.{entering, enters}
 use Rattle.graph_core.proofs.Counting.{weight}
+use Rattle.graph_core.proofs.WeightLaws.{nodes_cover}
 use Rattle.graph_core.specs.Pairs.{apart, IsRow, pairs_of}
 use Rattle.split_directed.specs.Allowed.{Allows}
 use Rattle.split_directed.specs.Rows.{copies, lowered, split, after, AreMost, SplitOff}
@@ -127,11 +128,6 @@ lines_written X (r ∷ rows) s =
       lines_written X rows (split s r.0 r.1 r.2),
     )
 
-nothing_over : (X : List Bool) (w : ℕ → ℕ) → ((v : ℕ) → w v ≡ 0) → sum_over X w ≡ 0
-nothing_over [] w h = refl
-nothing_over (true ∷ X) w h = omega (arith, h 0, nothing_over X (λ v. w (suc v)) (λ v. h (suc v)))
-nothing_over (false ∷ X) w h = omega (arith, nothing_over X (λ v. w (suc v)) (λ v. h (suc v)))
-
 -- where the counts of one kind lie in tight sides, they stay there, and no row has one node twice
 module _ {n k : ℕ} {s s' : StarValue} {u t c : ℕ} (f : Falls n s s' u t c) (covered : IsCoveredStar n k s') where
   heads_stay : AreHeadsTight n k s → AreHeadsTight n k s'
@@ -185,7 +181,7 @@ split_off {n} {k} {s} {rows} c most once same none =
       connected = λ X x. omega (
         arith,
         last.enters X x,
-        nothing_over X (slice_index (after s rows).into) into_none,
+        nodes_cover (slice_index (after s rows).into) X [] (λ v _ _. into_none v),
         lines_written X rows s,
         sum_by-append (λ l. weight (enters X l)) s.lines (lines_of (apart (pairs_of rows))),
       );

@@ -1,12 +1,12 @@
 -- One of a star's two functions, as arcs with capacities and counts of the nodes. No public clause cites it.
-use Rattle.std.specs.Prelude.{ℕ, ◌≡◌, ◌<◌, ◌≤◌, Bool, List, length, slice_index, sum, All}
+use Rattle.std.specs.Prelude.{ℕ, ◌≡◌, ◌<◌, ◌≤◌, Bool, List, length, sum, All}
 use Rattle.flow_cuts.specs.NewNode.{value_with}
 use Rattle.split_directed.specs.declared.half.Half.{Half}
 use Rattle.graph_core.specs.Limits.{line_room, node_room}
 
 -- the capacity that leaves X, and the counts of its nodes
 abbrev pub value : Half → List Bool → ℕ
-value h X = value_with h.arcs.items (slice_index h.counts.items) X
+value h X = value_with h.arcs.items h.counts.items X
 
 -- arcs and counts of n nodes, few enough for a flow
 pub record IsHalf (n : ℕ) (h : Half) : Type 0 where

@@ -1,6 +1,5 @@
 pub mod Allowed
 pub mod Half
-pub mod Least
 pub mod Pairs
 pub mod Rows
 pub mod State

@@ -10,7 +10,7 @@ use Rattle.problem_defs.specs.declared.cert.Way.{Way}
 use Rattle.problem_defs.specs.declared.cert.Way.TheVariants.{Entering, Leaving}
 use Rattle.split_directed.specs.Half.{IsHalf}
 use Rattle.problem_defs.specs.Ways.{count_for}
-use Rattle.split_directed.specs.Ways.{counts_for}
+use Rattle.flow_cuts.specs.StarValues.{counts_for}
 use Rattle.split_directed.specs.Rows.{after}
 use Rattle.cut_fn.specs.Stars.{StarValue, star_of, star_enter, star_leave}
 

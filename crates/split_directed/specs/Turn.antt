@@ -3,8 +3,8 @@ use Rattle.std.specs.Prelude.{ℕ, ◌≡◌, ◌≢◌, ◌+◌, ◌<◌, ◌�
 use Rattle.graph_core.specs.Side.{has, size, IsProper}
 use Rattle.cut_fn.specs.Covered.{IsTight}
 use Rattle.problem_defs.specs.declared.cert.Way.{Way}
-use Rattle.split_directed.specs.Ways.{value_for}
-use Rattle.split_directed.specs.Least.{HasBoth}
+use Rattle.flow_cuts.specs.StarValues.{value_for}
+use Rattle.flow_cuts.specs.LeastOver.{HasBoth}
 use Rattle.split_directed.specs.Rows.{after, AreMost}
 use Rattle.cut_fn.specs.Stars.{StarValue, star_enter, star_leave}
 use Rattle.split_directed.specs.State.{IsCoveredStar}

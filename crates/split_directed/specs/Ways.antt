@@ -1,19 +1,9 @@
--- The two functions of a star, and what each is made of. No public clause cites it.
-use Rattle.std.specs.Prelude.{ℕ, ◌+◌, ◌==◌, ◌&&◌, Bool, true, false, List, [], ◌∷◌, cond, slice_index}
-use Rattle.graph_core.specs.Side.{has, join, sum_over}
+-- By the way that arcs are counted: what changes where two nodes are split off, and how tight sides are joined. No public clause cites it.
+use Rattle.std.specs.Prelude.{ℕ, ◌==◌, ◌&&◌, Bool, true, false, List, [], ◌∷◌, cond}
+use Rattle.graph_core.specs.Side.{has, join}
 use Rattle.flow_cuts.specs.declared.network.Cap.{Cap}
-use Rattle.problem_defs.specs.Ways.{count_for}
 use Rattle.problem_defs.specs.declared.cert.Way.{Way}
 use Rattle.problem_defs.specs.declared.cert.Way.TheVariants.{Entering, Leaving}
-use Rattle.cut_fn.specs.Stars.{StarValue}
-
-abbrev pub counts_for : Way → StarValue → List ℕ
-counts_for Entering s = s.into
-counts_for Leaving s = s.out
-
--- the arcs that enter X, or that leave it, with those of the new node
-abbrev pub value_for : Way → StarValue → List Bool → ℕ
-value_for w s X = count_for w s.lines X + sum_over X (slice_index (counts_for w s))
 
 abbrev pub same : Way → Way → Bool
 same Entering Entering = true

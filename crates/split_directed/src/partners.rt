@@ -1,4 +1,4 @@
-ghost use Rattle.std.specs.Prelude.{◌≡◌, ◌+◌, ◌<◌, ◌≤◌, length, slice_index, sum, IfOk};
+ghost use Rattle.std.specs.Prelude.{◌≡◌, ◌+◌, ◌≤◌, length, slice_index, sum, IfOk};
 ghost use Rattle.cut_fn.specs.Covered.{IsCovered};
 ghost use Rattle.split_directed.specs.Allowed.{IsPartner};
 ghost use Rattle.cut_fn.specs.Stars.{star_enter, star_leave, star_of};

@@ -1,10 +1,10 @@
 pub mod Candidates
+pub mod LeastLaws
 pub mod Lovasz
 pub mod MostLaws
 pub mod NextNet
 pub mod PairLaws
 pub mod RowLaws
-pub mod SearchLaws
 pub mod SplitLaws
 pub mod StarLaws
 pub mod Turns

@@ -18,7 +18,8 @@ use Rattle.flow_cuts.specs.GraphArcs.{arcs_of}
 use Rattle.flow_cuts.proofs.NewNodes.{length-edge_arcs, edges_are_arcs}
 use Rattle.flow_cuts.proofs.ArcLaws.{capacity-arcs_of, both_across}
 use Rattle.split_undirected.specs.Most.{MaySplit}
-use Rattle.split_undirected.specs.Network.{both_ways, net_value, IsStarNet}
+use Rattle.flow_cuts.specs.NewNode.{value_with}
+use Rattle.split_undirected.specs.Network.{both_ways, IsStarNet}
 use Rattle.split_undirected.proofs.SplitLaws.{copies, ends_at-copies, across-copies, within-copies, degree-apart, nodes_after, value_after}
 use Rattle.graph_core.proofs.WeightLaws.{nodes_all}
 use Rattle.graph_core.proofs.SideLaws.{has-whole}
@@ -87,10 +88,10 @@ module _ {n k : ℕ} {ls : List Line} {arcs : List Cap} {counts : List ℕ} (net
       )
 
   -- the value of a side in the network falls by 2 q where it holds u and v
-  pub net_falls : (X : List Bool) → net_value (arcs ++ both_ways u v q) left X + 2 * (q * weight (has X u && has X v)) ≡ net_value arcs counts X
+  pub net_falls : (X : List Bool) → value_with (arcs ++ both_ways u v q) left X + 2 * (q * weight (has X u && has X v)) ≡ value_with arcs counts X
   net_falls X = omega (arith, capacity_next X, value_next X, net.same X)
 
-  pub net_next : 1 ≤ q → MaySplit n k (net_value arcs counts) (slice_index counts) u v q → IsStarNet n k (lines_after ls (copies u v q)) (arcs ++ both_ways u v q) left
+  pub net_next : 1 ≤ q → MaySplit n k (value_with arcs counts) (slice_index counts) u v q → IsStarNet n k (lines_after ls (copies u v q)) (arcs ++ both_ways u v q) left
   net_next some may = record {
     long = long ∙ net.long;
     nodes = net.nodes;

@@ -1,5 +1,5 @@
 -- How the lines, the counts and the values of sides change when pairs are split off.
-use Rattle.std.specs.Prelude.{ℕ, ◌≡◌, ◌+◌, ◌*◌, ◌==◌, Bool, true, false, not, ◌&&◌, cond, List, [], ◌∷◌, ◌++◌, map, replicate, count_by, refl}
+use Rattle.std.specs.Prelude.{ℕ, ◌≡◌, ◌+◌, ◌*◌, ◌≤◌, ◌==◌, Bool, true, false, not, ◌&&◌, cond, List, [], ◌∷◌, ◌++◌, map, replicate, count_by, refl}
 use Rattle.std.proofs.Common.{sym, ap, ◌∙◌, arith, append_assoc}
 use Rattle.std.proofs.lemmas.Bool.{eqb-true}
 use Rattle.std.proofs.lemmas.List.{map-append, flat_map_more}
@@ -60,11 +60,18 @@ ends_within X (p ∷ pairs) =
       sum_by-cons (λ q. weight (has X q.1)) p pairs,
     )
 
-pub nodes_ends : (X : List Bool) (pairs : List (ℕ × ℕ)) → sum_over X (λ v. ends_at v pairs) ≡ pairs_across X pairs + 2 * pairs_within X pairs
-nodes_ends X pairs =
+-- a pair across X has an end in it
+pub degree-pairs : (X : List Bool) (pairs : List (ℕ × ℕ)) → degree X (lines_of (apart pairs)) ≤ count_by (λ p. has X p.0) pairs + count_by (λ p. has X p.1) pairs
+degree-pairs X pairs = omega (arith, degree-apart X pairs, ends_within X pairs)
+
+-- the ends of pairs at the nodes of a side
+pub pairs_ends_in : (X : List Bool) (pairs : List (ℕ × ℕ)) → sum_over X (λ v. ends_at v pairs) ≡ count_by (λ p. has X p.0) pairs + count_by (λ p. has X p.1) pairs
+pairs_ends_in X pairs =
     nodes_add (λ v. count_by (λ p. p.0 == v) pairs) (λ v. count_by (λ p. p.1 == v) pairs) X
     ∙ (λ i. nodes_named (λ (p : ℕ × ℕ). p.0) X pairs i + nodes_named (λ (p : ℕ × ℕ). p.1) X pairs i)
-    ∙ sym (ends_within X pairs)
+
+pub nodes_ends : (X : List Bool) (pairs : List (ℕ × ℕ)) → sum_over X (λ v. ends_at v pairs) ≡ pairs_across X pairs + 2 * pairs_within X pairs
+nodes_ends X pairs = pairs_ends_in X pairs ∙ sym (ends_within X pairs)
 
 -- what a side's edges to the new node lose
 pub nodes_after : (X : List Bool) (w left : ℕ → ℕ) (pairs : List (ℕ × ℕ)) → ((v : ℕ) → has X v ≡ true → left v + ends_at v pairs ≡ w v) → sum_over X left + pairs_across X pairs + 2 * pairs_within X pairs ≡ sum_over X w

@@ -13,7 +13,8 @@ use Rattle.graph_core.specs.Pairs.{pair_at, IsRow, pairs_of}
 use Rattle.flow_cuts.specs.declared.network.Cap.{Cap}
 use Rattle.split_undirected.specs.Most.{IsMost}
 use Rattle.split_undirected.specs.CoveredStar.{room, is_candidate, IsDangerous, IsWitness, AreWitnesses, IsWider}
-use Rattle.split_undirected.specs.Network.{both_ways, net_value, IsStarNet, IsBlock}
+use Rattle.flow_cuts.specs.NewNode.{value_with}
+use Rattle.split_undirected.specs.Network.{both_ways, IsStarNet, IsBlock}
 use Rattle.split_undirected.specs.Underway.{IsUnderway, AreDone, IsTurn, IsAfterRow}
 use Rattle.split_undirected.proofs.Candidates.{room_first, room_second, room_twice, candidate_room}
 use Rattle.split_undirected.proofs.SplitLaws.{copies, lines_after-append, ends_at-append, pairs_of-push}
@@ -116,15 +117,15 @@ module _ {n k : ℕ} {ls : List Line} {w : ℕ → ℕ} {rows rows' : List (ℕ 
   pub counts_fall : (x : ℕ) → slice_index counts' x ≤ slice_index counts x
   counts_fall = lowered_less (slice_index counts) (slice_index counts') u v q after.lowered
 
-  pub values_fall : (X : List Bool) → net_value arcs' counts' X + 2 * (q * weight (has X u && has X v)) ≡ net_value arcs counts X
+  pub values_fall : (X : List Bool) → value_with arcs' counts' X + 2 * (q * weight (has X u && has X v)) ≡ value_with arcs counts X
   values_fall X =
       elim after.either [
         | inl none ↦ (let zero' : q * weight (has X u && has X v) ≡ 0 = ap (λ m. m * weight (has X u && has X v)) none.0 ∙ omega arith in
-            let same : net_value arcs' counts' X ≡ net_value arcs counts X = λ i. net_value (none.2 i) (none.3 i) X in omega arith)
-        | inr some ↦ subst (λ a. net_value a counts' X + 2 * (q * weight (has X u && has X v)) ≡ net_value arcs counts X) (sym some.2) (net_falls under.net u v q lu lv counts' after.long after.lowered X)
+            let same : value_with arcs' counts' X ≡ value_with arcs counts X = λ i. value_with (none.2 i) (none.3 i) X in omega arith)
+        | inr some ↦ subst (λ a. value_with a counts' X + 2 * (q * weight (has X u && has X v)) ≡ value_with arcs counts X) (sym some.2) (net_falls under.net u v q lu lv counts' after.long after.lowered X)
       ]
 
-  pub underway_next : IsMost n k (net_value arcs counts) (slice_index counts) u v q → ((j : ℕ) → j < length rows → HaveSameEnds (pair_at rows j) (u, v, 0) → ⊥) → IsUnderway n k ls w rows' arcs' counts'
+  pub underway_next : IsMost n k (value_with arcs counts) (slice_index counts) u v q → ((j : ℕ) → j < length rows → HaveSameEnds (pair_at rows j) (u, v, 0) → ⊥) → IsUnderway n k ls w rows' arcs' counts'
   underway_next largest fresh =
       elim after.either [
         | inl none ↦ subst (λ r. IsUnderway n k ls w r arcs' counts') (sym none.1) (subst (λ a. IsUnderway n k ls w rows a counts') (sym none.2) (subst (λ c. IsUnderway n k ls w rows arcs c) (sym none.3) under))
@@ -146,7 +147,7 @@ module _ {n k : ℕ} {ls : List Line} {w : ℕ → ℕ} {rows rows' : List (ℕ 
       ]
 
   -- with sides that are as wide, and hold v unless it has no room
-  pub turn_next : {X Y X' Y' : List Bool} → IsTurn n k u rows arcs counts X Y → AreWitnesses n k (net_value arcs' counts') u X' Y' → IsWider X Y X' Y' → is_candidate (slice_index counts') u X' Y' v ≡ false → IsTurn n k u rows' arcs' counts' X' Y'
+  pub turn_next : {X Y X' Y' : List Bool} → IsTurn n k u rows arcs counts X Y → AreWitnesses n k (value_with arcs' counts') u X' Y' → IsWider X Y X' Y' → is_candidate (slice_index counts') u X' Y' v ≡ false → IsTurn n k u rows' arcs' counts' X' Y'
   turn_next {X} {Y} {X'} {Y'} turn wit wider gone =
       let less = candidates_less (slice_index counts) (slice_index counts') u X Y X' Y' counts_fall wider in
       let old_first : (j : ℕ) → j < length rows → (slice_index counts' (pair_at rows j).0 ≡ 0) ⊎ ((pair_at rows j).0 ≡ u) =
@@ -180,13 +181,13 @@ module _ {n k : ℕ} {ls : List Line} {w : ℕ → ℕ} {rows rows' : List (ℕ 
           ]
 
   -- a side that blocks more pairs is dangerous afterwards
-  pub block_danger : (Z : List Bool) → IsBlock n k (net_value arcs counts) u v q Z → IsDangerous n k (net_value arcs' counts') u Z
+  pub block_danger : (Z : List Bool) → IsBlock n k (value_with arcs counts) u v q Z → IsDangerous n k (value_with arcs' counts') u Z
   block_danger Z b =
       let all : q * weight (has Z u && has Z v) ≡ q = ap (λ t. q * weight (t && has Z v)) b.first ∙ ap (λ t. q * weight t) b.second ∙ omega arith in
       record { proper = b.proper; holds = b.first; value = omega (arith, values_fall Z, b.value) }
 
 -- the first turn of a node
-pub turn_start : {n k u : ℕ} {rows : List (ℕ × ℕ × ℕ)} {arcs : List Cap} {counts : List ℕ} {X Y : List Bool} → AreDone rows counts → AreWitnesses n k (net_value arcs counts) u X Y → IsTurn n k u rows arcs counts X Y
+pub turn_start : {n k u : ℕ} {rows : List (ℕ × ℕ × ℕ)} {arcs : List Cap} {counts : List ℕ} {X Y : List Bool} → AreDone rows counts → AreWitnesses n k (value_with arcs counts) u X Y → IsTurn n k u rows arcs counts X Y
 turn_start {n} {k} {u} {rows} {arcs} {counts} {X} {Y} done wit = record {
   witnesses = wit;
   firsts = λ j l. inl (done j l);

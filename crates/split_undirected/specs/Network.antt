@@ -8,16 +8,11 @@ use Rattle.graph_core.specs.declared.graph.Line.{Line}
 use Rattle.cut_fn.specs.Covered.{IsCovered}
 use Rattle.flow_cuts.specs.declared.network.Cap.{Cap}
 use Rattle.flow_cuts.specs.Network.{capacity}
-use Rattle.flow_cuts.specs.NewNode.{value_with}
 use Rattle.split_undirected.specs.Rows.{star_value}
 
 -- q edges of u and v
 abbrev pub both_ways : ℕ → ℕ → ℕ → List Cap
 both_ways u v q = record { tail = u; head = v; cap = q } ∷ (record { tail = v; head = u; cap = q } ∷ [])
-
--- what leaves a side without the new node
-abbrev pub net_value : List Cap → List ℕ → List Bool → ℕ
-net_value arcs counts = value_with arcs (slice_index counts)
 
 -- arcs and counts are those of a k-covered star of n nodes with the lines ls, and they are few enough for a flow
 pub record IsStarNet (n k : ℕ) (ls : List Line) (arcs : List Cap) (counts : List ℕ) : Type 0 where
@@ -28,19 +23,6 @@ pub record IsStarNet (n k : ℕ) (ls : List Line) (arcs : List Cap) (counts : Li
   pub fit : All (Fits n) ls
   pub same : (X : List Bool) → capacity X arcs ≡ degree X ls
   pub covered : IsCovered n k (star_value ls (slice_index counts))
-
--- a proper side with u and v of the value a
-pub record IsSideOver (n : ℕ) (f : List Bool → ℕ) (u v a : ℕ) (Z : List Bool) : Type 0 where
-  pub proper : IsProper n Z
-  pub first : has Z u ≡ true
-  pub second : has Z v ≡ true
-  pub value : f Z ≡ a
-
--- a is the smaller of stop and the least value of a proper side with u and v; below stop, Z is such a side
-pub record IsLeastOver (n : ℕ) (f : List Bool → ℕ) (u v stop a : ℕ) (Z : List Bool) : Type 0 where
-  pub stopped : a ≤ stop
-  pub least : (X : List Bool) → IsProper n X → has X u ≡ true → has X v ≡ true → a ≤ f X
-  pub reached : a < stop → IsSideOver n f u v a Z
 
 -- a proper side with u and v of too small a value for more than q pairs
 pub record IsBlock (n k : ℕ) (f : List Bool → ℕ) (u v q : ℕ) (Z : List Bool) : Type 0 where

@@ -4,7 +4,8 @@ use Rattle.graph_core.specs.declared.graph.Line.{Line}
 use Rattle.graph_core.specs.Pairs.{pair_at, pairs_of}
 use Rattle.flow_cuts.specs.declared.network.Cap.{Cap}
 use Rattle.split_undirected.specs.CoveredStar.{is_candidate, AreWitnesses}
-use Rattle.split_undirected.specs.Network.{both_ways, net_value, IsStarNet}
+use Rattle.flow_cuts.specs.NewNode.{value_with}
+use Rattle.split_undirected.specs.Network.{both_ways, IsStarNet}
 use Rattle.split_undirected.specs.Split.{ends_at, lines_after}
 use Rattle.split_undirected.specs.Rows.{HaveSameEnds, AreMost}
 
@@ -21,7 +22,7 @@ AreDone rows counts = (j : ℕ) → j < length rows → slice_index counts (pair
 
 -- the same while u's edges are split off, with dangerous sides X and Y of u: no candidate of u has a row with u yet
 pub record IsTurn (n k : ℕ) (u : ℕ) (rows : List (ℕ × ℕ × ℕ)) (arcs : List Cap) (counts : List ℕ) (X Y : List Bool) : Type 0 where
-  pub witnesses : AreWitnesses n k (net_value arcs counts) u X Y
+  pub witnesses : AreWitnesses n k (value_with arcs counts) u X Y
   pub firsts : (j : ℕ) → j < length rows → (slice_index counts (pair_at rows j).0 ≡ 0) ⊎ ((pair_at rows j).0 ≡ u)
   pub fresh : (j : ℕ) → j < length rows → (v : ℕ) → is_candidate (slice_index counts) u X Y v ≡ true → HaveSameEnds (pair_at rows j) (u, v, 0) → ⊥
 

@@ -5,7 +5,8 @@ ghost use Rattle.graph_core.specs.declared.graph.Line.{Line as LineOf};
 ghost use Rattle.cut_fn.specs.Covered.{IsCovered};
 ghost use Rattle.split_undirected.specs.CoveredStar.{room};
 ghost use Rattle.split_undirected.specs.Most.{IsMost};
-ghost use Rattle.split_undirected.specs.Network.{net_value, IsStarNet, IsBlock};
+ghost use Rattle.flow_cuts.specs.NewNode.{value_with};
+ghost use Rattle.split_undirected.specs.Network.{IsStarNet, IsBlock};
 
 use crate::least::least_over;
 use crate::rest::Rest;
@@ -28,8 +29,8 @@ pub fn most_over(
     requires v { v < length rest.now.counts.items }
     requires into { length into.old ≡ length rest.now.counts.items }
     ensures into { length into.new ≡ length rest.now.counts.items }
-    ensures most { IfOk result (IsMost (length rest.now.counts.items) k (net_value rest.now.arcs.items rest.now.counts.items) (slice_index rest.now.counts.items) u v) }
-    ensures block { IfOk result (λ q. q < room (slice_index rest.now.counts.items) u v → IsBlock (length rest.now.counts.items) k (net_value rest.now.arcs.items rest.now.counts.items) u v q into.new) }
+    ensures most { IfOk result (IsMost (length rest.now.counts.items) k (value_with rest.now.arcs.items rest.now.counts.items) (slice_index rest.now.counts.items) u v) }
+    ensures block { IfOk result (λ q. q < room (slice_index rest.now.counts.items) u v → IsBlock (length rest.now.counts.items) k (value_with rest.now.arcs.items rest.now.counts.items) u v q into.new) }
 {
     let room = rest.room(u, v);
     if room == 0 {

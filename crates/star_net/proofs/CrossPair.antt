@@ -19,7 +19,8 @@ use Rattle.cut_fn.specs.Covered.{IsCovered, IsTight}
 use Rattle.problem_defs.specs.Ways.{count_for, opposite}
 use Rattle.problem_defs.specs.declared.cert.Way.{Way}
 use Rattle.problem_defs.specs.declared.cert.Way.TheVariants.{Entering, Leaving}
-use Rattle.star_net.specs.TightFamily.{with_counts, IsTightFamily}
+use Rattle.flow_cuts.specs.StarValues.{with_counts}
+use Rattle.star_net.specs.TightFamily.{IsTightFamily}
 use Rattle.graph_core.proofs.ItemLaws.{counted_below}
 use Rattle.star_net.proofs.TightFamilies.{tight_family}
 

@@ -11,9 +11,9 @@ use Rattle.graph_core.proofs.Counting.{weight}
 use Rattle.graph_core.proofs.HeadLaws.{node-le-sum}
 use Rattle.graph_core.proofs.WeightLaws.{nodes_changed}
 use Rattle.cut_fn.specs.Covered.{IsCovered, IsTight}
+use Rattle.flow_cuts.specs.StarValues.{with_counts}
 use Rattle.star_net.specs.LeastProper.{IsLeastProper}
 use Rattle.star_net.specs.Lowered.{IsLowered}
-use Rattle.star_net.specs.TightFamily.{with_counts}
 
 pub small_counts : {n k v : ℕ} {h : List Bool → ℕ} {counts : List ℕ} {family : List (List Bool)} → IsLowered n k h v counts family → k ≤ 65536 → All (λ count. count < 2 ^ 32) counts
 small_counts {n} {k} {v} {h} {counts} s small = All-from_get_or (λ count. count < 2 ^ 32) counts 0 (λ j l. omega (arith, s.most j))

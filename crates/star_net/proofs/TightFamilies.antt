@@ -20,8 +20,9 @@ use Rattle.flow_cuts.proofs.ArcLaws.{capacity-arcs_of}
 use Rattle.flow_cuts.proofs.NewNodes.{capacity-arcs_by}
 use Rattle.problem_defs.specs.Ways.{count_for}
 use Rattle.problem_defs.specs.declared.cert.Way.{Way}
+use Rattle.flow_cuts.specs.StarValues.{with_counts}
 use Rattle.star_net.specs.Lowered.{capacity_over, IsLowered}
-use Rattle.star_net.specs.TightFamily.{with_counts, IsTightFamily}
+use Rattle.star_net.specs.TightFamily.{IsTightFamily}
 
 pub tight_family : {n k : ℕ} {h : List Bool → ℕ} {counts : List ℕ} {P : List (List Bool)} → length counts ≡ n → AreTight n k (with_counts h counts) P → AreDisjoint n P
     → ((v : ℕ) → 1 ≤ slice_index counts v → 1 ≤ members_with v P) → IsTightFamily n k h counts P

@@ -4,7 +4,7 @@ use Rattle.graph_core.specs.Families.{members_with}
 use Rattle.cut_fn.specs.Covered.{IsCovered, AreTight}
 use Rattle.flow_cuts.specs.Network.{capacity}
 use Rattle.flow_cuts.specs.declared.network.Cap.{Cap}
-use Rattle.star_net.specs.TightFamily.{with_counts}
+use Rattle.flow_cuts.specs.StarValues.{with_counts}
 
 abbrev pub capacity_over : List Cap → List Bool → ℕ
 capacity_over arcs X = capacity X arcs

@@ -1,12 +1,8 @@
 -- Families that show that the counts of a star can't be less.
-use Rattle.std.specs.Prelude.{ℕ, ◌≡◌, ◌+◌, ◌-◌, ◌≤◌, Bool, List, length, slice_index, sum, sum_by}
+use Rattle.std.specs.Prelude.{ℕ, ◌≡◌, ◌-◌, ◌≤◌, Bool, List, length, slice_index, sum, sum_by}
 use Rattle.graph_core.specs.Families.{members_with, IsDisjointFamily}
-use Rattle.graph_core.specs.Side.{sum_over}
 use Rattle.cut_fn.specs.Covered.{IsCovered, AreTight}
-
--- the value of a side where h counts at it without the new node: with the counts of its nodes
-abbrev pub with_counts : (List Bool → ℕ) → List ℕ → List Bool → ℕ
-with_counts h counts X = h X + sum_over X (slice_index counts)
+use Rattle.flow_cuts.specs.StarValues.{with_counts}
 
 -- disjoint tight sides that hold each node with a count, where h counts the lines at a side. So the counts have the sum of
 -- k - h over the sides, and no other counts that make the star k-covered have less

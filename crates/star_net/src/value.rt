@@ -24,7 +24,7 @@ pub fn least_value(
     requires v { v < length counts.now }
     requires last { v + 1 < length counts.now → stop ≤ slice_index counts.now v + slice_index counts.now (length counts.now - 1) }
     requires long { length into.old ≡ length counts.now }
-    ensures { IfOk result (λ value. IsLeastProper (length counts.now) (value_with arcs.now (slice_index counts.now)) v stop value into.new) }
+    ensures { IfOk result (λ value. IsLeastProper (length counts.now) (value_with arcs.now counts.now) v stop value into.new) }
 {
     let n = counts.len() as u32;
     let mut star = StarFlow::new(alloc, arcs, counts)?;

@@ -1,6 +1,6 @@
 use Rattle.std.proofs.Common.{◌≡◌, ◌<◌, length, map, false, ap, ◌∙◌, arith}
 use Rattle.std.proofs.lemmas.List.{length-replicate}
-use Rattle.flow_cuts.specs.Cuts.{IsLeastCapacity, IsLeastCut}
+use Rattle.flow_cuts.specs.Cuts.{IsLeastCapacity, IsMinimumCut}
 use Rattle.problem_defs.specs.declared.cert.Way.TheVariants.{Entering}
 use Rattle.flow_cuts.specs.NewNode.{arc_by}
 use Rattle.flow_cuts.proofs.NewNodes.{ends-arcs_by}
@@ -32,7 +32,7 @@ loop-v-preserved c =
     elim c.if-v-root.branch [
       | then-v-root w ↦
           let value : IsLeastCapacity n w.hold_only-then-v-root.new.self c.hold_only.new.self (map (arc_by Entering) ls) c.loop-v.value w.lower-value.result = rw (inv.nodes, inv.arcs) at w.lower-value.ensures.value in
-          let cut : w.lower-value.result < c.loop-v.value → IsLeastCut n w.hold_only-then-v-root.new.self c.hold_only.new.self (map (arc_by Entering) ls) w.lower-value.result w.lower-value.new.least = rw (inv.nodes, inv.arcs) at w.lower-value.ensures.cut in
+          let cut : w.lower-value.result < c.loop-v.value → IsMinimumCut n w.hold_only-then-v-root.new.self c.hold_only.new.self (map (arc_by Entering) ls) w.lower-value.result w.lower-value.new.least = rw (inv.nodes, inv.arcs) at w.lower-value.ensures.cut in
           rw (w.flow-is, w.inside-is, w.value-is, w.least-is) (record {
             nodes = w.lower-value.ensures.nodes ∙ inv.nodes;
             arcs = w.lower-value.ensures.arcs ∙ inv.arcs;

@@ -4,8 +4,8 @@ use Rattle.std.proofs.lemmas.List.{length-map}
 use Rattle.graph_core.specs.Side.{IsProper}
 use Rattle.dicut_lattice.specs.Tight.{TightValue}
 use Rattle.dicut_lattice.specs.Level.{IsLevel, ArePieces}
-use Rattle.lucchesi_younger.specs.Kept.{level, AreLayer}
-use Rattle.lucchesi_younger.proofs.Built.{proper-level, no-layer}
+use Rattle.lucchesi_younger.specs.Kept.{level}
+use Rattle.lucchesi_younger.proofs.Built.{proper-level, no-pieces}
 use Rattle.lucchesi_younger.proofs.dual.pieces_at.Goals as goal
 
 pub returns-then-not-is_proper-clause-pieces : goal.returns-then-not-is_proper-clause-pieces
@@ -14,8 +14,8 @@ returns-then-not-is_proper-clause-pieces c =
     let w = c.args.work.now in
     let L = level w.potential c.args.least in
     let long : length L ≡ length g.names = length-map w.potential (λ p. leb c.args.least p) ∙ c.requires.kept.potential_long in
-    subst (λ P. AreLayer g w.join L P) (sym c.new.ensures)
-    (no-layer g c.known.ensures.makes.ends w (length g.lines) c.requires.kept L long
+    subst (λ P. ArePieces g w.join L P) (sym c.new.ensures)
+    (no-pieces g c.known.ensures.makes.ends w (length g.lines) c.requires.kept L long
     (λ p. both_ways c.is_proper.result c.if-not-is_proper.true (c.is_proper.ensures.1 (subst (λ X. IsProper (length X) X) (sym c.in_ok-level.ensures) (subst (λ n. IsProper n L) (sym long) p)))))
 
 pub pieces_of_level-requires : goal.pieces_of_level-requires
@@ -33,5 +33,4 @@ returns-clause-pieces c =
     let g = c.args.graph.now in
     let w = c.args.work.now in
     let P = c.in_ok-pieces.pieces in
-    let pieces = subst (λ X. ArePieces g w.join X P) c.in_ok-level.ensures (subst (λ (t : TightValue). ArePieces t.graph t.join c.in_ok-level.level P) c.requires.tight c.in_ok-pieces.ensures.pieces) in
-    record { tight = pieces.tight; entered = pieces.entered }
+    subst (λ X. ArePieces g w.join X P) c.in_ok-level.ensures (subst (λ (t : TightValue). ArePieces t.graph t.join c.in_ok-level.level P) c.requires.tight c.in_ok-pieces.ensures.pieces)

@@ -1,10 +1,9 @@
 use Rattle.std.proofs.Common.{◌≡◌, ◌+◌, ◌<◌, false, length, sum, ap, sym, subst, ◌∙◌, arith}
-use Rattle.std.proofs.lemmas.Bool.{OnFalse_at}
+use Rattle.std.proofs.lemmas.Bool.{OnFalse_at, not-false}
 use Rattle.std.proofs.lemmas.Option.{get_or_from_slice_get}
 use Rattle.std.proofs.lemmas.List.Sums.{get_or-le-sum_by}
 use Rattle.lucchesi_younger.specs.Kept.{at, AllKept}
 use Rattle.lucchesi_younger.specs.Spent.{IsSpent, IsRaised}
-use Rattle.lucchesi_younger.proofs.Booleans.{not-false}
 use Rattle.lucchesi_younger.proofs.Costs.{sum-le-sum}
 use Rattle.lucchesi_younger.proofs.Spent.{spent-raised, spent-more, spent-same}
 use Rattle.lucchesi_younger.specs.declared.held.Held.{Held}

@@ -1,10 +1,9 @@
 use Rattle.std.proofs.Common.{◌≤◌, ℕ, false, sym, ap, subst, ◌∙◌, arith}
 use Rattle.std.specs.Prelude.{slice_set, ◌+◌}
-use Rattle.std.proofs.lemmas.Bool.{both_ways}
+use Rattle.std.proofs.lemmas.Bool.{both_ways, not-true, not-false}
 use Rattle.std.proofs.lemmas.Option.{get_or_from_slice_get}
 use Rattle.lucchesi_younger.specs.Kept.{at, IsIn, AllKept}
 use Rattle.lucchesi_younger.specs.Spent.{IsRaised, AreRisen}
-use Rattle.lucchesi_younger.proofs.Booleans.{not-true, not-false}
 use Rattle.lucchesi_younger.proofs.Costs.{dearer-free, raised-free}
 use Rattle.lucchesi_younger.proofs.Spent.{still-within, risen-more, risen-same}
 use Rattle.lucchesi_younger.specs.declared.work.Work.{Work}

@@ -1,7 +1,6 @@
 use Rattle.std.proofs.Common.{◌≡◌, ◌+◌, ◌<◌, ◌∙◌, length, sym, ap, subst, arith}
-use Rattle.graph_core.specs.Side.{has}
 use Rattle.lucchesi_younger.specs.Search.{IsSearch, PastArcs, PastJumps, node, visit}
-use Rattle.lucchesi_younger.proofs.Booleans.{on-false}
+use Rattle.std.proofs.lemmas.Bool.{OnFalse_from}
 use Rattle.lucchesi_younger.proofs.SearchLaws.{visit_read, grows_trans, search_next, unforced, past_jump}
 use Rattle.lucchesi_younger.specs.declared.work.By.TheVariants.{Jumped}
 use Rattle.lucchesi_younger.specs.declared.work.Visit.{Visit}
@@ -44,8 +43,8 @@ returns c =
     record {
       held = next.held;
       search = next.search;
-      done = on-false c.has-found.result (has new.reached c.args.wanted) (IsSearch g w c.args.task.now.late new.reached visits (place + 1)) c.has-found.ensures (λ fresh.
-          let jumps = subst (λ u. PastJumps g w u new.reached (length g.names)) (sym same) (next.past fresh) in
+      done = OnFalse_from c.has-found.result (IsSearch g w c.args.task.now.late new.reached visits (place + 1)) (λ missed.
+          let jumps = subst (λ u. PastJumps g w u new.reached (length g.names)) (sym same) (next.past (sym c.has-found.ensures ∙ missed)) in
           search_next g w c.args.task.now.late new.reached visits place next.search (λ v v_in out. unforced g w c.args.task.now.late new.reached visits place next.search arcs v out (jumps v v_in out)));
       found = c.has-found.ensures;
       grows = grows_trans old.reached was.reached new.reached old.visits.items was.visits.items visits first.grows next.grows;

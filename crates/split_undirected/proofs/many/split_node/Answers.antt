@@ -2,9 +2,9 @@ use Rattle.std.proofs.Common.{◌≡◌, ◌≤◌, ◌%◌, length, sym, ap, �
 use Rattle.std.specs.Prelude.{slice_index, sum}
 use Rattle.std.proofs.lemmas.List.{get_or_default}
 use Rattle.split_undirected.specs.CoveredStar.{total, is_candidate, IsWitness}
-use Rattle.split_undirected.specs.Network.{net_value}
+use Rattle.flow_cuts.specs.NewNode.{value_with}
 use Rattle.split_undirected.proofs.Candidates.{some_candidate}
-use Rattle.split_undirected.proofs.SearchLaws.{net_star}
+use Rattle.split_undirected.proofs.LeastLaws.{net_star}
 use Rattle.split_undirected.proofs.WitnessLaws.{no_witness}
 use Rattle.split_undirected.proofs.Turns.{turn_start}
 use Rattle.split_undirected.proofs.many.split_node.Goals as goal
@@ -14,7 +14,7 @@ use Rattle.graph_core.proofs.SizeLaws.{count_fewer}
 pub turns-init : goal.turns-init
 turns-init c =
     let n = length c.args.rest.now.counts.items in
-    let f = net_value c.args.rest.now.arcs.items c.args.rest.now.counts.items in
+    let f = value_with c.args.rest.now.arcs.items c.args.rest.now.counts.items in
     let few : c.len.result ≡ n = c.len.ensures ∙ c.args.rest.now.counts.ok.0 in
     let near : IsWitness n c.args.k f c.args.u c.in_ok-witnesses.witnesses.near = rw (c.in_ok-witnesses.ensures.near, few) no_witness in
     let far : IsWitness n c.args.k f c.args.u c.in_ok-witnesses.witnesses.far = rw (c.in_ok-witnesses.ensures.far, few) no_witness in

@@ -6,9 +6,10 @@ use Rattle.graph_core.specs.declared.graph.Kind.TheVariants.{Undirected}
 use Rattle.flow_cuts.proofs.ArcLaws.{capacity-arcs_of}
 use Rattle.split_undirected.specs.CoveredStar.{total, is_candidate, IsDangerous, AreWitnesses, IsWider}
 use Rattle.split_undirected.specs.Most.{MaySplit}
-use Rattle.split_undirected.specs.Network.{net_value, IsStarNet}
+use Rattle.flow_cuts.specs.NewNode.{value_with}
+use Rattle.split_undirected.specs.Network.{IsStarNet}
 use Rattle.split_undirected.proofs.Candidates.{room_first, room_second, room_twice, some_candidate, candidate_room}
-use Rattle.split_undirected.proofs.SearchLaws.{net_star}
+use Rattle.split_undirected.proofs.LeastLaws.{net_star}
 use Rattle.split_undirected.proofs.NextNet.{net_start}
 use Rattle.split_undirected.proofs.Turns.{gone_inside, candidates_less}
 use Rattle.split_undirected.proofs.single.partner.Goals as goal
@@ -46,7 +47,7 @@ returns-then-least-k-clause-partner c =
     let v = c.next-v.result in
     let cs = c.in_ok-rest.rest.counts.items in
     let can = candidate_room (slice_index cs) u v c.tries.witnesses.near c.tries.witnesses.far c.next-v.ensures.candidate in
-    let may : MaySplit (length cs) c.args.k (net_value c.in_ok-rest.rest.arcs.items cs) (slice_index cs) u v 1 = record {
+    let may : MaySplit (length cs) c.args.k (value_with c.in_ok-rest.rest.arcs.items cs) (slice_index cs) u v 1 = record {
       first = omega (arith, room_first (slice_index cs) u v, can.0);
       second = omega (arith, room_second (slice_index cs) u v, can.0);
       twice = λ e. omega (arith, room_twice (slice_index cs) u v e, can.0);
@@ -56,7 +57,7 @@ returns-then-least-k-clause-partner c =
     subst (λ f. MaySplit (length star.graph.names) c.args.k f (slice_index star.count) u v 1) (λ i X. capacity-arcs_of Undirected X star.graph.lines i + sum_over X (slice_index star.count)) same
 
 -- the side that was found is taken into the two others
-absorbed : (c : goal.After-absorb) → AreWitnesses (length c.in_ok-rest.rest.counts.items) c.args.k (net_value c.in_ok-rest.rest.arcs.items c.in_ok-rest.rest.counts.items) c.args.u c.absorb.new.self.near c.absorb.new.self.far
+absorbed : (c : goal.After-absorb) → AreWitnesses (length c.in_ok-rest.rest.counts.items) c.args.k (value_with c.in_ok-rest.rest.arcs.items c.in_ok-rest.rest.counts.items) c.args.u c.absorb.new.self.near c.absorb.new.self.far
     × IsWider c.tries.witnesses.near c.tries.witnesses.far c.absorb.new.self.near c.absorb.new.self.far × ((has c.absorb.new.self.near c.next-v.result || has c.absorb.new.self.far c.next-v.result) ≡ true)
 absorbed c =
     let star = c.args.star.now in
@@ -70,8 +71,8 @@ absorbed c =
     let can = candidate_room (slice_index cs) c.args.u c.next-v.result c.tries.witnesses.near c.tries.witnesses.far c.next-v.ensures.candidate in
     let least = c.in_ok-least.ensures.least in
     let found = least.reached (omega (arith, least.stopped, c.if-least-k.false)) in
-    let danger : IsDangerous (length cs) c.args.k (net_value arcs cs) c.args.u c.least_over.new.into = record { proper = found.proper; holds = found.first; value = omega (arith, found.value, least.stopped, c.if-least-k.false) } in
-    c.absorb.ensures.wider (length cs) c.args.k (net_value arcs cs) (slice_index cs) c.args.u c.next-v.result (net_star net) c.requires.split.two some c.tries.invariant.witnesses danger found.second can.1 can.2
+    let danger : IsDangerous (length cs) c.args.k (value_with arcs cs) c.args.u c.least_over.new.into = record { proper = found.proper; holds = found.first; value = omega (arith, found.value_is, least.stopped, c.if-least-k.false) } in
+    c.absorb.ensures.wider (length cs) c.args.k (value_with arcs cs) (slice_index cs) c.args.u c.next-v.result (net_star net) c.requires.split.two some c.tries.invariant.witnesses danger found.second can.1 can.2
 
 pub tries-preserved : goal.tries-preserved
 tries-preserved c = record { side = c.in_ok-least.ensures.into; witnesses = (absorbed c).0 }

@@ -1,9 +1,9 @@
 use Rattle.std.proofs.Common.{◌+◌, ◌-◌, ◌∙◌, arith}
 use Rattle.std.specs.Prelude.{slice_index}
 use Rattle.std.proofs.lemmas.List.{get_or_read, get_or-set_other}
+use Rattle.flow_cuts.specs.StarValues.{with_counts}
 use Rattle.star_net.specs.LeastProper.{IsLeastProper}
 use Rattle.star_net.specs.Lowered.{capacity_over}
-use Rattle.star_net.specs.TightFamily.{with_counts}
 use Rattle.star_net.proofs.Lowering.{small_counts, lowered_next}
 use Rattle.star_net.proofs.counts.lower_node.Goals as goal
 

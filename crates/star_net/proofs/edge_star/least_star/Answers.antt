@@ -6,8 +6,8 @@ use Rattle.graph_core.specs.Side.{sum_over}
 use Rattle.cut_fn.specs.Covered.{AreTight}
 use Rattle.cut_fn.specs.Members.{AreDisjoint}
 use Rattle.cut_fn.specs.Stars.{star_cut}
-use Rattle.star_net.specs.TightFamily.{with_counts}
 use Rattle.graph_core.proofs.ItemLaws.{counted_below}
+use Rattle.flow_cuts.specs.StarValues.{with_counts}
 use Rattle.star_net.proofs.TightFamilies.{few_counts, tight_family}
 use Rattle.star_net.proofs.edge_star.least_star.Goals as goal
 

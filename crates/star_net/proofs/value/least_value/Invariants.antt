@@ -1,5 +1,4 @@
 use Rattle.std.proofs.Common.{◌≡◌, length}
-use Rattle.std.specs.Prelude.{slice_index}
 use Rattle.flow_cuts.specs.NewNode.{value_with}
 use Rattle.star_net.proofs.LeastProper.{IsLeastBelow}
 use Rattle.star_net.proofs.value.least_value.Given as goal
@@ -9,5 +8,5 @@ invariant-loop-u l = record {
   arcs : l.star.arcs.now ≡ l.arcs;
   counts : l.star.counts.now ≡ l.counts;
   long : length l.into ≡ length l.counts;
-  least : IsLeastBelow (length l.counts) (value_with l.arcs (slice_index l.counts)) l.v l.u l.stop l.value l.into;
+  least : IsLeastBelow (length l.counts) (value_with l.arcs l.counts) l.v l.u l.stop l.value l.into;
 }

@@ -1,18 +1,19 @@
 -- Least values up to a limit over the sides that hold two nodes: what a turn of the search over missed nodes keeps.
-use Rattle.std.specs.Prelude.{ℕ, ◌≡◌, ◌+◌, ◌<◌, ◌≤◌, ◌≢◌, ◌⊎◌, Bool, true, false, List, length, replicate, slice_index, slice_set, sum}
+use Rattle.std.specs.Prelude.{ℕ, ◌≡◌, ◌+◌, ◌*◌, ◌<◌, ◌≤◌, ◌≢◌, ◌⊎◌, Bool, true, false, List, length, replicate, slice_index, slice_set, sum}
 use Rattle.std.proofs.Common.{sym, ap, subst, ◌∙◌, inl, inr, arith}
 use Rattle.std.proofs.lemmas.Bool.{cases_lt, cases_eq, cases_Bool}
 use Rattle.std.proofs.lemmas.List.{length-replicate, length-set, get_or_past, get_or-set_other}
-use Rattle.graph_core.specs.Side.{has, IsProper}
-use Rattle.graph_core.proofs.NodeCounts.{some_outside}
+use Rattle.graph_core.specs.Side.{has, sum_over, IsProper}
+use Rattle.graph_core.proofs.NodeCounts.{some_outside, sum_complement}
 use Rattle.graph_core.proofs.SideLaws.{has-none}
 use Rattle.graph_core.proofs.PutLaws.{put_here, put_kept}
 use Rattle.graph_core.proofs.ProperLaws.{is_proper}
+use Rattle.graph_core.proofs.WeightLaws.{nodes_within}
 use Rattle.cut_fn.specs.TwoSides.{IsWithin}
 use Rattle.flow_cuts.specs.LeastMissing.{HasMissing, IsLeastMissing}
-use Rattle.split_directed.specs.declared.half.Half.{Half}
-use Rattle.split_directed.specs.Half.{value}
-use Rattle.split_directed.specs.Least.{HasBoth, IsLeastOver}
+use Rattle.flow_cuts.specs.NewNode.{value_with}
+use Rattle.flow_cuts.specs.declared.network.Cap.{Cap}
+use Rattle.flow_cuts.specs.LeastOver.{BoundsCounts, HasBoth, IsLeastOver, MissesCount}
 
 -- the search over missed nodes: the nodes below w with a count are held, and so is H by each side of a value below the answer
 pub record IsSearched (n : ℕ) (f : List Bool → ℕ) (counts : List ℕ) (u t stop w answer : ℕ) (H X : List Bool) : Type 0 where
@@ -107,14 +108,14 @@ searched_start two = record {
 }
 
 -- where all nodes together have no less than stop, one run is enough
-pub least_at_once : {n u t stop answer : ℕ} {H X : List Bool} (h : Half) → length h.counts.items ≡ n → IsTwo n u t H
-    → stop ≤ sum h.counts.items → IsLeastMissing n (value h) H n stop answer X → IsLeastOver n (value h) u t stop answer X
-least_at_once {n} {u} {t} {stop} {answer} {H} {X} h long two all least = record {
+pub least_at_once : {n u t stop answer : ℕ} {H X : List Bool} (f : List Bool → ℕ) (counts : List ℕ) → ((Y : List Bool) → sum_over Y (slice_index counts) ≤ f Y)
+    → length counts ≡ n → IsTwo n u t H → stop ≤ sum counts → IsLeastMissing n f H n stop answer X → IsLeastOver n f u t stop answer X
+least_at_once {n} {u} {t} {stop} {answer} {H} {X} f counts counted long two all least = record {
   stopped = least.stopped;
   least = λ Y y yu yt. least.least Y y.long (two_within two Y yu yt) (get_or_past Y n false (omega (arith, y.long)));
   reached = λ short.
       let m = least.reached short in
-      let (v, l, out, some) = some_outside h.counts.items X (m.long ∙ sym long) (omega (arith, m.value_is, short)) in
+      let (v, l, out, some) = some_outside counts X (m.long ∙ sym long) (omega (arith, m.value_is, counted X, short)) in
       record {
         proper = is_proper X u v m.long (m.holds.at u two.first) (omega (arith, m.long)) out;
         first = m.holds.at u two.first;
@@ -122,3 +123,33 @@ least_at_once {n} {u} {t} {stop} {answer} {H} {X} h long two all least = record 
         value_is = m.value_is;
       };
 }
+
+-- at the end no proper side has less, since those with a value below the answer hold all nodes with a count
+pub searched_done : {n u t stop answer : ℕ} {f : List Bool → ℕ} {counts : List ℕ} {H X : List Bool} → MissesCount n f counts u t stop
+    → IsSearched n f counts u t stop n answer H X → IsLeastOver n f u t stop answer X
+searched_done {n} {u} {t} {stop} {answer} {f} missed s = record {
+  stopped = s.stopped;
+  least = λ Y y yu yt.
+      elim (cases_lt (f Y) answer) [
+        | inl less ↦ (let (v, l, out, some) = missed Y y yu yt (omega (arith, s.stopped)) in absurd (cc ((s.held Y y yu yt less).at v (s.below v l some), out)))
+        | inr more ↦ more
+      ];
+  reached = s.reached;
+}
+
+-- nor has one before the end, where so many of the counts are held
+pub searched_heavy : {n u t stop w answer : ℕ} {f : List Bool → ℕ} {counts : List ℕ} {H X : List Bool} (k : ℕ) (c : List ℕ) → BoundsCounts n k f c
+    → sum c + answer ≤ 2 * sum_over H (slice_index c) + k → IsSearched n f counts u t stop w answer H X → IsLeastOver n f u t stop answer X
+searched_heavy {n} {u} {t} {stop} {w} {answer} {f} {counts} {H} k c bound heavy s = record {
+  stopped = s.stopped;
+  least = λ Y y yu yt.
+      elim (cases_lt (f Y) answer) [
+        | inl less ↦ absurd (omega (arith, bound Y y, nodes_within (slice_index c) H Y (s.held Y y yu yt less).at))
+        | inr more ↦ more
+      ];
+  reached = s.reached;
+}
+
+-- with k = 0 nothing is asked of a network
+pub bounds_none : {n : ℕ} (arcs : List Cap) (counts : List ℕ) → length counts ≡ n → BoundsCounts n 0 (value_with arcs counts) counts
+bounds_none arcs counts long X proper = omega (arith, sum_complement counts X (proper.long ∙ sym long))

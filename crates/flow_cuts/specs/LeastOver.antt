@@ -1,6 +1,6 @@
--- The least value of a function of sides, up to a limit, over the proper sides that hold two nodes. No public clause cites it.
-use Rattle.std.specs.Prelude.{ℕ, ◌≡◌, ◌<◌, ◌≤◌, Bool, true, false, List, slice_index}
-use Rattle.graph_core.specs.Side.{has, IsProper}
+-- Least values of the proper sides that hold two nodes.
+use Rattle.std.specs.Prelude.{ℕ, ◌≡◌, ◌+◌, ◌*◌, ◌<◌, ◌≤◌, Bool, true, false, List, slice_index, sum}
+use Rattle.graph_core.specs.Side.{has, sum_over, IsProper}
 
 -- X is a proper side that holds u and t and has the value
 pub record HasBoth (n : ℕ) (f : List Bool → ℕ) (u t value : ℕ) (X : List Bool) : Type 0 where
@@ -19,3 +19,7 @@ pub record IsLeastOver (n : ℕ) (f : List Bool → ℕ) (u t stop answer : ℕ)
 abbrev pub MissesCount : ℕ → (List Bool → ℕ) → List ℕ → ℕ → ℕ → ℕ → Type 0
 MissesCount n f counts u t stop =
     (X : List Bool) → IsProper n X → has X u ≡ true → has X t ≡ true → f X < stop → (w : ℕ) × (w < n) × (has X w ≡ false) × (1 ≤ slice_index counts w)
+
+-- twice the counts of a proper side are at most its value and all counts, less k
+abbrev pub BoundsCounts : ℕ → ℕ → (List Bool → ℕ) → List ℕ → Type 0
+BoundsCounts n k f counts = (X : List Bool) → IsProper n X → 2 * sum_over X (slice_index counts) + k ≤ f X + sum counts
