@@ -1,7 +1,7 @@
 ghost use Rattle.std.specs.Prelude.{◌≡◌, ◌≤◌, true, length, OnOk, IfErr};
 ghost use Rattle.problem_defs.specs.Claims.{claims};
 ghost use Rattle.problem_defs.specs.Shaped.{IsShaped};
-ghost use Rattle.problem_defs.specs.declared.cert.Body.TheVariants.{Parts};
+ghost use Rattle.problem_defs.specs.declared.cert.Body.TheVariants.{Arcs, Join, Never, Parts};
 ghost use Rattle.certificate_text.specs.BadLine.{whole_lines};
 ghost use Rattle.certificate_checker.specs.Accepted.{IsAccepted};
 ghost use Rattle.certificate_checker.specs.FirstLack.{FirstLack};
@@ -13,7 +13,7 @@ use crate::dijoin::judge_no_dijoin;
 use crate::orient::{judge_no_orientation, judge_orientation};
 use crate::rejection::Rejection;
 use certificate_text::{CertRefusal, read_cert};
-use graph_core::{Graph, NumberRows};
+use graph_core::{Graph, NumberRows, Numbers, Pairs, Side, Sides};
 use problem_defs::{
     ArborescencesAsk, Ask, AugmentArcsAsk, AugmentAsk, Body, Cert, DijoinAsk, Family, FlowAsk,
     ForestDual, ForestsAsk, PartsDual, TreesAsk,
@@ -54,6 +54,52 @@ fn judge_packing(
     }
 }
 
+/// Judges new arcs.
+fn judge_arcs(
+    on: &Judge<'_>,
+    ask: Ask,
+    value: u64,
+    pairs: &Pairs,
+    family: &Family,
+) -> Result<(), Rejection>
+    requires shaped { IsShaped on.now.graph.now (record { ask = ask; body = Arcs value pairs.now family.now.way family.now.sides }) }
+    ensures { FirstLack (claims on.now.graph.now ask (Arcs value pairs.now family.now.way family.now.sides)) result }
+{
+    match ask {
+        Ask::AugmentArcs { k } => on.answer(&AugmentArcsAsk { k }, value, pairs, family),
+        _ => unreachable!("the body belongs to the ask"),
+    }
+}
+
+/// Judges a dijoin.
+fn judge_join(
+    on: &Judge<'_>,
+    ask: Ask,
+    value: u64,
+    numbers: &Numbers,
+    sides: &Sides,
+) -> Result<(), Rejection>
+    requires shaped { IsShaped on.now.graph.now (record { ask = ask; body = Join value numbers.now sides.now }) }
+    ensures { FirstLack (claims on.now.graph.now ask (Join value numbers.now sides.now)) result }
+{
+    match ask {
+        Ask::Dijoin => on.answer(&DijoinAsk, value, numbers, sides),
+        _ => unreachable!("the body belongs to the ask"),
+    }
+}
+
+/// Judges a side that is to forbid every object.
+fn judge_never(graph: &Graph, ask: Ask, side: &Side) -> Result<(), Rejection>
+    requires shaped { IsShaped graph.now (record { ask = ask; body = Never side.now }) }
+    ensures { FirstLack (claims graph.now ask (Never side.now)) result }
+{
+    match ask {
+        Ask::Orient { k } => judge_no_orientation(graph, k, side),
+        Ask::Dijoin => judge_no_dijoin(graph, side),
+        _ => unreachable!("the body belongs to the ask"),
+    }
+}
+
 /// Judges what a certificate says of the graph.
 fn judge(alloc: Global, graph: &Graph, cert: Cert) -> Result<(), Rejection>
     requires shaped { IsShaped graph.now cert }
@@ -80,30 +126,18 @@ fn judge(alloc: Global, graph: &Graph, cert: Cert) -> Result<(), Rejection>
             pairs,
             way,
             sides,
-        } => match ask {
-            Ask::AugmentArcs { k } => {
-                on.answer(&AugmentArcsAsk { k }, value, &pairs, &Family { way, sides })
-            }
-            _ => unreachable!("the body belongs to the ask"),
-        },
+        } => judge_arcs(&on, ask, value, &pairs, &Family { way, sides }),
         Body::Join {
             value,
             numbers,
             sides,
-        } => match ask {
-            Ask::Dijoin => on.answer(&DijoinAsk, value, &numbers, &sides),
-            _ => unreachable!("the body belongs to the ask"),
-        },
+        } => judge_join(&on, ask, value, &numbers, &sides),
         Body::Parts { value, rows, dual } => judge_packing(&on, ask, value, rows, dual),
         Body::Turned(heads) => match ask {
             Ask::Orient { k } => judge_orientation(alloc, graph, k, &heads),
             _ => unreachable!("the body belongs to the ask"),
         },
-        Body::Never(side) => match ask {
-            Ask::Orient { k } => judge_no_orientation(graph, k, &side),
-            Ask::Dijoin => judge_no_dijoin(graph, &side),
-            _ => unreachable!("the body belongs to the ask"),
-        },
+        Body::Never(side) => judge_never(graph, ask, &side),
     }
 }
 

@@ -6,6 +6,7 @@ use Rattle.problem_defs.specs.declared.ask.Ask.{Ask}
 use Rattle.problem_defs.specs.declared.ask.Ask.TheVariants as ask
 use Rattle.problem_defs.specs.declared.cert.Body.{Body}
 use Rattle.problem_defs.specs.declared.cert.Body.TheVariants as body
+use Rattle.problem_defs.specs.declared.cert.PartsDual.{PartsDual}
 use Rattle.problem_defs.specs.declared.cert.PartsDual.TheVariants as parts
 use Rattle.problem_defs.specs.declared.cert.Way.{Way}
 use Rattle.problem_defs.specs.declared.cert.Way.TheVariants.{Entering, Leaving}
@@ -44,24 +45,30 @@ heads_of [] pairs = []
 heads_of (l ∷ ls) [] = []
 heads_of (l ∷ ls) (p ∷ pairs) = (p.0 == l.tail) ∷ heads_of ls pairs
 
-abbrev pub only_side : Gathered → List Bool
-only_side c = slice_index_or c.sides 0 []
+abbrev pub only_side : List (List Bool) → List Bool
+only_side sides = slice_index_or sides 0 []
 
-abbrev pub forests_body : Gathered → DualKind → Body
-forests_body c kind.Nothing = body.Parts c.value c.rows parts.Nothing
-forests_body c other = body.Parts c.value c.rows (parts.Induced (only_side c))
+abbrev pub forests_dual : DualKind → List (List Bool) → PartsDual
+forests_dual kind.Nothing sides = parts.Nothing
+forests_dual other sides = parts.Induced (only_side sides)
+
+-- the dual of a packing or a cover
+abbrev pub parts_dual : Ask → DualKind → List (List Bool) → PartsDual
+parts_dual (ask.Arborescences r) k sides = parts.Cut (only_side sides)
+parts_dual ask.Trees k sides = parts.Partition sides
+parts_dual _ k sides = forests_dual k sides
 
 abbrev pub way_of : DualKind → Way
 way_of kind.Out = Leaving
 way_of other = Entering
 
 abbrev pub body_of : GraphValue → Ask → Gathered → Body
-body_of g (ask.Flow s t) c = body.Walks c.value c.rows (only_side c)
+body_of g (ask.Flow s t) c = body.Walks c.value c.rows (only_side c.sides)
 body_of g ask.CutTree c = body.Tree c.trees
 body_of g (ask.Augment k) c = body.Edges c.value c.pairs c.sides
 body_of g (ask.AugmentArcs k) c = body.Arcs c.value c.pairs (way_of c.kind) c.sides
-body_of g (ask.Arborescences r) c = body.Parts c.value c.rows (parts.Cut (only_side c))
-body_of g ask.Trees c = body.Parts c.value c.rows (parts.Partition c.sides)
-body_of g ask.Forests c = forests_body c c.kind
-body_of g (ask.Orient k) c = if c.impossible then body.Never (only_side c) else body.Turned (heads_of g.lines c.pairs)
-body_of g ask.Dijoin c = if c.impossible then body.Never (only_side c) else body.Join c.value (slice_index_or c.rows 0 []) c.sides
+body_of g (ask.Arborescences r) c = body.Parts c.value c.rows (parts_dual (ask.Arborescences r) c.kind c.sides)
+body_of g ask.Trees c = body.Parts c.value c.rows (parts_dual ask.Trees c.kind c.sides)
+body_of g ask.Forests c = body.Parts c.value c.rows (parts_dual ask.Forests c.kind c.sides)
+body_of g (ask.Orient k) c = if c.impossible then body.Never (only_side c.sides) else body.Turned (heads_of g.lines c.pairs)
+body_of g ask.Dijoin c = if c.impossible then body.Never (only_side c.sides) else body.Join c.value (slice_index_or c.rows 0 []) c.sides

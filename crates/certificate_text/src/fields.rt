@@ -14,6 +14,9 @@ use crate::words::{WordsLeft, is_done, next_word};
 use graph_core::{Graph, NoMemory, Numbers, Side};
 use std::alloc::Global;
 
+/// The greatest k of a command.
+const MOST_K: u64 = 32;
+
 /// Whether `1` is the only word left.
 pub fn is_one(words: WordsLeft<'_>) -> bool
     ensures { IsTrue result ↔ (words_left words.entry ≡ codes "1" ∷ []) }
@@ -148,7 +151,7 @@ fn line_number(word: &[u8], m: usize) -> Option<u32>
     Some((n - 1) as u32)
 }
 
-/// The number from 1 to 32 that is the only word left.
+/// The k of a command that is the only word left.
 pub fn only_k(words: WordsLeft<'_>) -> Option<u32>
     ensures { Finds IsK (λ k. decimal k ∷ []) (words_left words.entry) result }
 {
@@ -158,7 +161,7 @@ pub fn only_k(words: WordsLeft<'_>) -> Option<u32>
     if n == 0 {
         return None;
     }
-    if n > 32 {
+    if n > MOST_K {
         return None;
     }
     Some(n as u32)

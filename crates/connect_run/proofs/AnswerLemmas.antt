@@ -3,8 +3,8 @@ use Rattle.std.proofs.Common.{true, ◌≡◌, ℕ, ◌+◌, ◌<◌, ◌≤◌,
 use Rattle.std.specs.Io.KnownBytes.{Consumes, IsAtEnd}
 use Rattle.connect_words.specs.declared.command.Command.{Command}
 use Rattle.connect_run.specs.declared.status.Status.{Status}
-use Rattle.connect_words.specs.Commands.{Solves}
-use Rattle.connect_run.specs.Reading.{Commands, reads_input}
+use Rattle.connect_words.specs.Commands.{Solves, Writes}
+use Rattle.connect_run.specs.Reading.{reads_input}
 use Rattle.connect_run.specs.LargeCase.{limit}
 use Rattle.graph_core.specs.Graph.{GraphValue}
 use Rattle.graph_text.specs.Reading.{IsTextAlone, IsFaultAlone}
@@ -12,15 +12,15 @@ use Rattle.graph_text.specs.declared.refusal.Why.{Why}
 use Rattle.connect_words.specs.declared.command.Command.TheVariants.{Check, Trial}
 use Rattle.connect_run.specs.FaultCase.{FaultOf, AnswersFault, fault_status, fault_text}
 use Rattle.connect_run.specs.Answer.{AnswersInput, AnswersText, AnswersGraph, AnswersReading, AnswersCommand}
-use Rattle.connect_run.specs.Run.{AnswersLeft, Writes}
+use Rattle.connect_run.specs.Run.{AnswersLeft, WritesAnswer}
 use Rattle.connect_run.specs.Saying.{Says, Replies}
 use Rattle.connect_run.proofs.StatusLemmas.{answer-told, whole-writes}
 
 -- what is said is written
-pub says-writes : (words : List (List ℕ)) (left old new : Option (List ℕ)) (text : List ℕ) (status result : Status) → AnswersLeft words left text status → Says old new text status result → Writes words left old new result
+pub says-writes : (words : List (List ℕ)) (left old new : Option (List ℕ)) (text : List ℕ) (status result : Status) → AnswersLeft words left text status → Says old new text status result → WritesAnswer words left old new result
 says-writes words left old new text status result (input, told, answer) (inl (same, grows)) =
-    subst (Writes words left old new) (sym same) (whole-writes words left old new status (answer-told words input text status answer) (text, (input, told, answer), grows))
-says-writes words left old new text status result answers (inr (same, part)) = subst (Writes words left old new) (sym same) (text, status, answers, part)
+    subst (WritesAnswer words left old new) (sym same) (whole-writes words left old new status (answer-told words input text status answer) (text, (input, told, answer), grows))
+says-writes words left old new text status result answers (inr (same, part)) = subst (WritesAnswer words left old new) (sym same) (text, status, answers, part)
 
 -- what a command that reads is answered with
 pub reading-answers : (command : Command) → reads_input command ≡ true → (words : List (List ℕ)) (input text : List ℕ) (status : Status) → AnswersReading command words input text status → AnswersCommand command words input text status
@@ -28,11 +28,11 @@ reading-answers (Trial kind nodes number) reads words input text status answers 
 reading-answers command reads words input text status answers = answers
 
 -- a reply to a command is written
-pub replies-writes : (words : List (List ℕ)) (command : Command) (left old new : Option (List ℕ)) (input : List ℕ) (result : Status) → Commands words command → IfSome left (λ bytes. input ≡ bytes)
-    → Replies (AnswersCommand command words input) old new result → Writes words left old new result
+pub replies-writes : (words : List (List ℕ)) (command : Command) (left old new : Option (List ℕ)) (input : List ℕ) (result : Status) → Writes command words → IfSome left (λ bytes. input ≡ bytes)
+    → Replies (AnswersCommand command words input) old new result → WritesAnswer words left old new result
 replies-writes words command left old new input result commands told (inl (text, status, answers, said)) =
     says-writes words left old new text status result (input, told, inr (command, commands, answers)) said
-replies-writes words command left old new input result commands told (inr (same, kept)) = subst (Writes words left old new) (sym same) kept
+replies-writes words command left old new input result commands told (inr (same, kept)) = subst (WritesAnswer words left old new) (sym same) kept
 
 -- what one relation answers, a weaker one does
 pub replies-weaker : (P Q : List ℕ → Status → Type 0) → ((text : List ℕ) (status : Status) → P text status → Q text status) → (old new : Option (List ℕ)) (result : Status) → Replies P old new result → Replies Q old new result

@@ -6,13 +6,13 @@ use Rattle.problem_defs.specs.Ask.{misfit_of}
 use Rattle.problem_defs.specs.declared.ask.Ask.{Ask}
 use Rattle.problem_defs.specs.declared.ask.Misfit.{Misfit}
 use Rattle.connect_words.specs.Asks.{asked, ask_or_misfit, unless}
-use Rattle.connect_words.specs.Commands.{Solves}
+use Rattle.connect_words.specs.Commands.{Solves, Writes}
 use Rattle.connect_words.specs.Places.{IsFirstBadPlace}
 use Rattle.connect_words.specs.declared.command.Command.{Command}
 use Rattle.connect_words.specs.declared.command.Command.TheVariants.{Check, Trial}
 use Rattle.connect_words.specs.declared.command.TrialKind.{TrialKind}
 use Rattle.connect_words.proofs.MeaningLemmas.{one_command}
-use Rattle.connect_run.specs.Reading.{Commands, AreCommand, reads_input, AreReading}
+use Rattle.connect_run.specs.Reading.{AreCommand, reads_input, AreReading}
 
 -- a command that is neither `check` nor `trial` asks something
 solving-asks : (g : GraphValue) (words : List (List ℕ)) (command : Command) → Solves command → (ask : Ask) × (asked g words command ≡ Some ask)
@@ -69,7 +69,7 @@ solves-unless command reads other = (
 )
 
 -- the words of a trial are no command that reads
-pub trial-not-reading : (words : List (List ℕ)) (kind : TrialKind) (nodes number : ℕ) → Commands words (Trial kind nodes number) → AreReading words → ⊥
+pub trial-not-reading : (words : List (List ℕ)) (kind : TrialKind) (nodes number : ℕ) → Writes (Trial kind nodes number) words → AreReading words → ⊥
 trial-not-reading words kind nodes number commands (other, others, reads) =
     let same : Trial kind nodes number ≡ other = one_command words (Trial kind nodes number) other commands others in
     let clash : false ≡ true = ap reads_input same ∙ reads in

@@ -22,7 +22,7 @@ use Rattle.connect_words.specs.Trials.{trial_ask}
 use Rattle.connect_words.specs.declared.command.TrialKind.{TrialKind}
 use Rattle.connect_run.specs.Saying.{Replies}
 use Rattle.connect_run.specs.Answer.{IsAnswer, AnswersInput, AnswersText, AnswersGraph, AnswersReading, AnswersCommand}
-use Rattle.connect_run.specs.Run.{TellsAsk, TellsTrialOf, Writes, Ends, Fails, IsExact, IsComplete, CanBeSolved, CanBeChecked}
+use Rattle.connect_run.specs.Run.{TellsAsk, TellsTrialOf, WritesAnswer, Ends, Fails, IsExact, IsComplete, CanBeSolved, CanBeChecked}
 use Rattle.connect_run.proofs.CommandLemmas.{command-not-bad}
 use Rattle.connect_run.proofs.StatusLemmas.{verdict-tells, one-verdict, writes-whole}
 
@@ -176,7 +176,7 @@ checkable_status words input text status checkable (inr (command, commands, answ
     checked_status words input text status checkable (subst (λ x. AnswersCommand x words input text status) (one_command words command Check commands checkable.checks) answers)
 
 -- what was written whole fixes the status
-pub exact : (words : List (List ℕ)) (left old new : Option (List ℕ)) (result : Status) → Writes words left old new result → IfSome left (λ input. IsExact words input result)
+pub exact : (words : List (List ℕ)) (left old new : Option (List ℕ)) (result : Status) → WritesAnswer words left old new result → IfSome left (λ input. IsExact words input result)
 exact words None old new result writes = tt
 exact words (Some bytes) old new result writes = λ text status answer. elim (writes-whole words (Some bytes) old new result writes) [
   | inl fault ↦ inr fault
@@ -186,7 +186,7 @@ exact words (Some bytes) old new result writes = λ text status answer. elim (wr
       inl (one_status words bytes said text result status (subst (λ x. IsAnswer words x said result) told answer') answer))
 ]
 
-solves : (words : List (List ℕ)) (bytes : List ℕ) (old new : Option (List ℕ)) (result : Status) → Writes words (Some bytes) old new result → (solvable : CanBeSolved words bytes) → TellsAsk solvable.g solvable.ask result ⊎ Fails result
+solves : (words : List (List ℕ)) (bytes : List ℕ) (old new : Option (List ℕ)) (result : Status) → WritesAnswer words (Some bytes) old new result → (solvable : CanBeSolved words bytes) → TellsAsk solvable.g solvable.ask result ⊎ Fails result
 solves words bytes old new result writes solvable = elim (writes-whole words (Some bytes) old new result writes) [
   | inl fault ↦ inr fault
   | inr whole ↦
@@ -195,7 +195,7 @@ solves words bytes old new result writes solvable = elim (writes-whole words (So
       inl (solvable_status words bytes said result solvable (subst (λ x. IsAnswer words x said result) told answer')))
 ]
 
-checks : (words : List (List ℕ)) (bytes : List ℕ) (old new : Option (List ℕ)) (result : Status) → Writes words (Some bytes) old new result → CanBeChecked words bytes → Ends result Done ⊎ Ends result Rejected
+checks : (words : List (List ℕ)) (bytes : List ℕ) (old new : Option (List ℕ)) (result : Status) → WritesAnswer words (Some bytes) old new result → CanBeChecked words bytes → Ends result Done ⊎ Ends result Rejected
 checks words bytes old new result writes checkable = elim (writes-whole words (Some bytes) old new result writes) [
   | inl fault ↦ inl (inr fault)
   | inr whole ↦
@@ -207,7 +207,7 @@ checks words bytes old new result writes checkable = elim (writes-whole words (S
       ])
 ]
 
-pub complete : (words : List (List ℕ)) (left old new : Option (List ℕ)) (result : Status) → Writes words left old new result → IfSome left (λ input. IsComplete words input result)
+pub complete : (words : List (List ℕ)) (left old new : Option (List ℕ)) (result : Status) → WritesAnswer words left old new result → IfSome left (λ input. IsComplete words input result)
 complete words None old new result writes = tt
 complete words (Some bytes) old new result writes = record { solved = solves words bytes old new result writes; checked = checks words bytes old new result writes }
 

@@ -16,7 +16,7 @@ use Rattle.connect_words.specs.declared.command.Command.{Command}
 use Rattle.connect_words.specs.declared.command.Command.TheVariants.{Check, Trial}
 use Rattle.connect_run.specs.Answer.{IsAnswer, AnswersText, AnswersGraph, AnswersReading, AnswersCommand}
 use Rattle.connect_run.specs.CheckCase.{AnswersCheck}
-use Rattle.connect_run.specs.Run.{TellsAsk, Writes, WritesWhole}
+use Rattle.connect_run.specs.Run.{TellsAsk, WritesAnswer, WritesWhole}
 use Rattle.connect_run.specs.declared.status.Status.{Status}
 use Rattle.connect_run.specs.declared.status.Status.TheVariants.{Done, Impossible, ReadFault, WriteFault, NoMemory}
 
@@ -87,14 +87,14 @@ answer-told words input text status (inr (command, commands, answers)) = command
 
 module _ (words : List (List ℕ)) (left old new : Option (List ℕ)) where
   -- an answer that is written whole is what its status says
-  pub whole-writes : (status : Status) → is_told status ≡ true → WritesWhole words left old new status → Writes words left old new status
+  pub whole-writes : (status : Status) → is_told status ≡ true → WritesWhole words left old new status → WritesAnswer words left old new status
   whole-writes ReadFault told whole = absurd cc
   whole-writes WriteFault told whole = absurd cc
   whole-writes NoMemory told whole = absurd cc
   whole-writes status told whole = whole
 
   -- and the other way round, unless a fault came or memory ran out
-  pub writes-whole : (status : Status) → Writes words left old new status → ((status ≡ ReadFault) ⊎ (status ≡ WriteFault) ⊎ (status ≡ NoMemory)) ⊎ WritesWhole words left old new status
+  pub writes-whole : (status : Status) → WritesAnswer words left old new status → ((status ≡ ReadFault) ⊎ (status ≡ WriteFault) ⊎ (status ≡ NoMemory)) ⊎ WritesWhole words left old new status
   writes-whole ReadFault writes = inl (inl refl)
   writes-whole WriteFault writes = inl (inr (inl refl))
   writes-whole NoMemory writes = inl (inr (inr refl))

@@ -6,7 +6,7 @@ use Rattle.problem_defs.specs.declared.ask.Ask.{Ask}
 use Rattle.connect_words.specs.Asks.{asked}
 use Rattle.connect_words.specs.declared.command.Command.{Command}
 use Rattle.connect_words.specs.declared.command.Command.TheVariants.{Check, Trial}
-use Rattle.connect_run.specs.Reading.{Commands}
+use Rattle.connect_words.specs.Commands.{Writes}
 use Rattle.connect_run.specs.WordsCase.{AnswersBadWords}
 use Rattle.connect_run.specs.LargeCase.{AnswersTooLong, limit}
 use Rattle.connect_run.specs.FaultCase.{AnswersFault}
@@ -44,4 +44,4 @@ AnswersCommand command words input text status = AnswersReading command words in
 abbrev pub IsAnswer : List (List ℕ) → List ℕ → List ℕ → Status → Type 0
 IsAnswer words input text status =
     AnswersBadWords words text status
-    ⊎ ((command : Command) × Commands words command × AnswersCommand command words input text status)
+    ⊎ ((command : Command) × Writes command words × AnswersCommand command words input text status)

@@ -4,12 +4,8 @@ use Rattle.connect_words.specs.Commands.{Writes}
 use Rattle.connect_words.specs.declared.command.Command.{Command}
 use Rattle.connect_words.specs.declared.command.Command.TheVariants.{Trial}
 
--- the words write this command
-abbrev pub Commands : List (List ℕ) → Command → Type 0
-Commands words command = Writes command words
-
 abbrev pub AreCommand : List (List ℕ) → Type 0
-AreCommand words = (command : Command) × Commands words command
+AreCommand words = (command : Command) × Writes command words
 
 -- each but `trial`
 abbrev pub reads_input : Command → Bool
@@ -18,4 +14,4 @@ reads_input other = true
 
 -- the words are a command that reads an input
 abbrev pub AreReading : List (List ℕ) → Type 0
-AreReading words = (command : Command) × Commands words command × (reads_input command ≡ true)
+AreReading words = (command : Command) × Writes command words × (reads_input command ≡ true)

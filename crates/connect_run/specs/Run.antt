@@ -12,7 +12,7 @@ use Rattle.connect_words.specs.declared.command.Command.TheVariants.{Check, Tria
 use Rattle.problem_defs.specs.Ask.{misfit_of}
 use Rattle.problem_defs.specs.Impossible.{IsImpossible}
 use Rattle.problem_defs.specs.declared.ask.Ask.{Ask}
-use Rattle.connect_run.specs.Reading.{Commands}
+use Rattle.connect_words.specs.Commands.{Writes}
 use Rattle.connect_run.specs.LargeCase.{limit}
 use Rattle.connect_words.specs.declared.command.TrialKind.{TrialKind}
 use Rattle.connect_run.specs.TrialCase.{trial_graph}
@@ -33,11 +33,11 @@ abbrev pub WritesPart : List (List ℕ) → Option (List ℕ) → Option (List �
 WritesPart words left old new = (text : List ℕ) × (status : Status) × AnswersLeft words left text status × AppendsPart old new text
 
 -- What is written, by the status.
-abbrev pub Writes : List (List ℕ) → Option (List ℕ) → Option (List ℕ) → Option (List ℕ) → Status → Type 0
-Writes words left old new ReadFault = Keeps old new
-Writes words left old new WriteFault = WritesPart words left old new
-Writes words left old new NoMemory = Keeps old new
-Writes words left old new status = WritesWhole words left old new status
+abbrev pub WritesAnswer : List (List ℕ) → Option (List ℕ) → Option (List ℕ) → Option (List ℕ) → Status → Type 0
+WritesAnswer words left old new ReadFault = Keeps old new
+WritesAnswer words left old new WriteFault = WritesPart words left old new
+WritesAnswer words left old new NoMemory = Keeps old new
+WritesAnswer words left old new status = WritesWhole words left old new status
 
 -- at most one byte more than an input may have is taken from the front of the source
 abbrev pub TakesWithin : Option (List ℕ) → Option (List ℕ) → Type 0
@@ -67,7 +67,7 @@ IsExact words input result = (text : List ℕ) (status : Status) → IsAnswer wo
 -- What a run that has to succeed is given: a command, an input within the limits that is a graph text, and an ask that suits the graph.
 pub record CanBeSolved (words : List (List ℕ)) (input : List ℕ) : Type 0 where
   pub command : Command
-  pub commands : Commands words command
+  pub commands : Writes command words
   pub short : length input ≤ limit
   pub g : GraphValue
   pub reads : IsTextAlone input g
@@ -77,7 +77,7 @@ pub record CanBeSolved (words : List (List ℕ)) (input : List ℕ) : Type 0 whe
 
 -- what a run that has to accept or reject is given: `check`, and an input within the limits that begins with a graph text
 pub record CanBeChecked (words : List (List ℕ)) (input : List ℕ) : Type 0 where
-  pub checks : Commands words Check
+  pub checks : Writes Check words
   pub short : length input ≤ limit
   pub g : GraphValue
   pub count : ℕ
@@ -97,4 +97,4 @@ abbrev pub TellsTrialOf : TrialKind → ℕ → ℕ → Status → Type 0
 TellsTrialOf kind nodes number result = TellsAsk (trial_graph kind nodes number) (trial_ask kind nodes) result ⊎ (result ≡ WriteFault) ⊎ (result ≡ NoMemory)
 
 abbrev pub TellsTrial : List (List ℕ) → Status → Type 0
-TellsTrial words result = (kind : TrialKind) (nodes number : ℕ) → Commands words (Trial kind nodes number) → TellsTrialOf kind nodes number result
+TellsTrial words result = (kind : TrialKind) (nodes number : ℕ) → Writes (Trial kind nodes number) words → TellsTrialOf kind nodes number result

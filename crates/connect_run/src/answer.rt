@@ -4,8 +4,8 @@ ghost use Rattle.problem_defs.specs.Ask.{misfit_of, KIsInRange};
 ghost use Rattle.problem_defs.specs.declared.ask.Ask.{Ask as AskValue};
 ghost use Rattle.problem_defs.specs.declared.ask.Misfit.{Misfit as MisfitValue};
 ghost use Rattle.connect_words.specs.Asks.{asked};
-ghost use Rattle.connect_words.specs.Commands.{Solves};
-ghost use Rattle.connect_run.specs.Reading.{Commands, reads_input};
+ghost use Rattle.connect_words.specs.Commands.{Solves, Writes};
+ghost use Rattle.connect_run.specs.Reading.{reads_input};
 ghost use Rattle.connect_run.specs.Answer.{AnswersGraph, AnswersInput};
 ghost use Rattle.connect_run.specs.CheckCase.{AnswersCheck};
 ghost use Rattle.connect_run.specs.SolvedCase.{verdict, AnswersSolved};
@@ -52,7 +52,7 @@ pub fn reply<K: Sink>(
     input: &[u8],
     sink: &mut K,
 ) -> Status
-    requires commands { Commands (map string_bytes words.now) command.now }
+    requires commands { Writes command.now (map string_bytes words.now) }
     requires reads { reads_input command.now ≡ true }
     ensures replies { Replies (AnswersInput command.now (map string_bytes words.now) input.now) (K.written sink.old) (K.written sink.new) result }
     ensures write { TellsFault (K.faults sink.old) (K.faults sink.new) Status.WriteFault result }
@@ -72,7 +72,7 @@ fn reply_to_text<K: Sink>(
     input: &[u8],
     sink: &mut K,
 ) -> Status
-    requires commands { Commands (map string_bytes words.now) command.now }
+    requires commands { Writes command.now (map string_bytes words.now) }
     requires solves { Solves command.now }
     ensures replies { Replies (AnswersInput command.now (map string_bytes words.now) input.now) (K.written sink.old) (K.written sink.new) result }
     ensures write { TellsFault (K.faults sink.old) (K.faults sink.new) Status.WriteFault result }
@@ -128,7 +128,7 @@ fn reply_to_graph<K: Sink>(
     graph: &Graph,
     sink: &mut K,
 ) -> Status
-    requires commands { Commands (map string_bytes words.now) command.now }
+    requires commands { Writes command.now (map string_bytes words.now) }
     requires solves { Solves command.now }
     requires size { IsWithinSize graph.now }
     ensures replies { Replies (AnswersGraph command.now (map string_bytes words.now) graph.now) (K.written sink.old) (K.written sink.new) result }

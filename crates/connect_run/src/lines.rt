@@ -13,8 +13,11 @@ use graph_text::Why;
 use itoa::Buffer;
 use problem_defs::{Body, Misfit};
 
-/// A line of at most 64 bytes, kept in the value itself, so that no memory is asked for.
-pub type ShortLine = ArrayVec<u8, 64>;
+/// The most bytes of a line that is no certificate.
+const ROOM: usize = 64;
+
+/// Such a line, kept in the value itself, so that no memory is asked for.
+pub type ShortLine = ArrayVec<u8, ROOM>;
 
 /// The answer to words whose first bad place this is.
 pub fn words_line(place: usize) -> ShortLine
@@ -83,7 +86,6 @@ pub fn unsuited_line(misfit: Misfit) -> ShortLine
 
 /// The answer to a certificate that is rejected.
 pub fn rejected_line(why: Rejection) -> ShortLine
-    requires { why ≡ Rejection.NoMemory → ⊥ }
     ensures { result.items ≡ rejected_text why }
 {
     match why {
@@ -133,7 +135,7 @@ fn value_line(value: u64) -> ShortLine
 }
 
 fn line_of(part: &[u8]) -> ShortLine
-    requires { length part.now ≤ 64 }
+    requires { length part.now ≤ ROOM }
     ensures { result.items ≡ part.now }
 {
     let mut text = ShortLine::new();
@@ -164,7 +166,7 @@ fn word_of(why: Why) -> &'static [u8]
 }
 
 fn push_part(text: &mut ShortLine, part: &[u8])
-    requires { array_vec_len text.old + length part.now ≤ 64 }
+    requires { array_vec_len text.old + length part.now ≤ ROOM }
     ensures items { text.new.items ≡ text.old.items ++ part.now }
     ensures len { array_vec_len text.new ≡ array_vec_len text.old + length part.now }
 {

@@ -430,7 +430,7 @@ const ORIENTED: [Row<'static>; 16] = [
     ),
 ];
 
-const CHANGED: [Row<'static>; 20] = [
+const CHANGED: [Row<'static>; 21] = [
     // As it was answered, and with the paths exchanged.
     (
         SQUARE,
@@ -519,6 +519,13 @@ const CHANGED: [Row<'static>; 20] = [
     (
         INTO_ONE,
         b"certificate 1\ncommand dijoin\nvalue 1\njoin 1\ndual dicuts\nset x y\nend\n",
+        b"rejected infeasible\n",
+        2,
+    ),
+    // Two arcs of three into one node: none of them enters {x, y, z}.
+    (
+        b"graph directed\nnode x\nnode y\nnode z\nnode w\narc x y\narc z y\narc w y\nend\n",
+        b"certificate 1\ncommand dijoin\nvalue 2\njoin 1 2\ndual dicuts\nset x y z\nset y z w\nend\n",
         b"rejected infeasible\n",
         2,
     ),

@@ -12,6 +12,8 @@ mod graph_texts;
 #[cfg(test)]
 mod graphs;
 #[cfg(test)]
+mod reasons;
+#[cfg(test)]
 mod side_words;
 #[cfg(test)]
 mod streams;

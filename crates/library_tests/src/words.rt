@@ -7,7 +7,7 @@ use problem_defs::{Ask, Misfit};
 use std::alloc::{AllocError, Global};
 use std::process::Abort;
 use std::test::Fail;
-use test_graphs::{ARC, EDGE, graph_of};
+use test_graphs::{ARC, EDGE, ONE_NODE, ONE_NODE_OF_ARCS, graph_of};
 
 /// The words of a line, with one space between two words.
 fn words(alloc: Global, line: &str) -> Result<Vec<String>, AllocError> {
@@ -18,136 +18,157 @@ fn words(alloc: Global, line: &str) -> Result<Vec<String>, AllocError> {
     Ok(words)
 }
 
-fn are_commands(rt: &impl Abort, alloc: Global, rows: &[(&str, Command)]) -> Result<(), Fail> {
+// Lines whose words are a command.
+const COMMANDS: [(&str, Command); 13] = [
+    ("flow a b", Command::Flow),
+    ("flow  ", Command::Flow),
+    ("flow caf\u{e9} flow", Command::Flow),
+    ("cuttree", Command::CutTree),
+    ("augment 1", Command::Augment { k: 1 }),
+    ("augment 32", Command::Augment { k: 32 }),
+    ("augment-arcs 10", Command::AugmentArcs { k: 10 }),
+    ("arborescences r", Command::Arborescences),
+    ("trees", Command::Trees),
+    ("forests", Command::Forests),
+    ("orient 7", Command::Orient { k: 7 }),
+    ("dijoin", Command::Dijoin),
+    ("check", Command::Check),
+];
+
+// Lines whose words are a trial: its kind, how many nodes, and its number.
+const TRIALS: [(&str, TrialKind, u32, u32); 8] = [
+    ("trial flow 2 0", TrialKind::Flow, 2, 0),
+    (
+        "trial augment 128 4294967295",
+        TrialKind::Augment,
+        128,
+        u32::MAX,
+    ),
+    ("trial augment-arcs 40 7", TrialKind::AugmentArcs, 40, 7),
+    ("trial arborescences 40 7", TrialKind::Arborescences, 40, 7),
+    ("trial trees 40 7", TrialKind::Trees, 40, 7),
+    ("trial forests 40 7", TrialKind::Forests, 40, 7),
+    ("trial orient 40 7", TrialKind::Orient, 40, 7),
+    ("trial dijoin 40 7", TrialKind::Dijoin, 40, 7),
+];
+
+// Lines whose words have their first fault at a place.
+const FAULTS: [(&str, usize); 43] = [
+    ("", 1),
+    ("flows", 1),
+    ("Flow", 1),
+    ("caf\u{e9}", 1),
+    ("1", 1),
+    ("flow", 2),
+    ("cuttree x", 2),
+    ("augment", 2),
+    ("augment ", 2),
+    ("augment 0", 2),
+    ("augment 00", 2),
+    ("augment 02", 2),
+    ("augment 33", 2),
+    ("augment +2", 2),
+    ("augment -2", 2),
+    ("augment 2x", 2),
+    ("augment \u{663}", 2),
+    ("augment 4294967298", 2),
+    ("augment-arcs 33", 2),
+    ("orient 0", 2),
+    ("arborescences", 2),
+    ("trees trees", 2),
+    ("forests ", 2),
+    ("dijoin 1", 2),
+    ("check check", 2),
+    ("trial", 2),
+    ("trial cuttree 2 0", 2),
+    ("trial check 2 0", 2),
+    ("flow a", 3),
+    ("augment 2 ", 3),
+    ("arborescences a b", 3),
+    ("trial flow", 3),
+    ("trial flow 1 0", 3),
+    ("trial flow 129 0", 3),
+    ("trial flow 02 0", 3),
+    ("trial flow  0", 3),
+    ("flow a b c", 4),
+    ("trial flow 2", 4),
+    ("trial flow 2 4294967296", 4),
+    ("trial flow 2 00", 4),
+    ("trial flow 2 ", 4),
+    ("trial flow 2 -0", 4),
+    ("trial flow 2 0 0", 5),
+];
+
+fn are_read(rt: &impl Abort, alloc: Global, rows: &[(&str, Command)]) -> Result<(), Fail> {
     for (line, command) in rows {
         same(rt, &read_words(&words(alloc, line)?), &Ok(*command), line);
     }
     Ok(())
 }
 
-// Lines whose words have their first fault at a place.
-fn are_bad_at(rt: &impl Abort, alloc: Global, place: usize, lines: &[&str]) -> Result<(), Fail> {
-    for line in lines {
-        let read = read_words(&words(alloc, line)?);
-        same(rt, &read, &Err(WordFault { place }), line);
+fn are_trials(
+    rt: &impl Abort,
+    alloc: Global,
+    rows: &[(&str, TrialKind, u32, u32)],
+) -> Result<(), Fail> {
+    for (line, kind, nodes, number) in rows {
+        let trial = Command::Trial {
+            kind: *kind,
+            nodes: *nodes,
+            number: *number,
+        };
+        same(rt, &read_words(&words(alloc, line)?), &Ok(trial), line);
+    }
+    Ok(())
+}
+
+fn are_bad(rt: &impl Abort, alloc: Global, rows: &[(&str, usize)]) -> Result<(), Fail> {
+    for (line, place) in rows {
+        let fault = WordFault { place: *place };
+        same(rt, &read_words(&words(alloc, line)?), &Err(fault), line);
     }
     Ok(())
 }
 
 #[test]
 fn words_are_a_command_or_have_a_first_bad_place(rt: HostRuntime) -> Result<(), Fail> {
-    let commands = [
-        ("flow a b", Command::Flow),
-        ("flow  ", Command::Flow),
-        ("flow caf\u{e9} flow", Command::Flow),
-        ("cuttree", Command::CutTree),
-        ("augment 1", Command::Augment { k: 1 }),
-        ("augment 32", Command::Augment { k: 32 }),
-        ("augment-arcs 10", Command::AugmentArcs { k: 10 }),
-        ("arborescences r", Command::Arborescences),
-        ("trees", Command::Trees),
-        ("forests", Command::Forests),
-        ("orient 7", Command::Orient { k: 7 }),
-        ("dijoin", Command::Dijoin),
-        ("check", Command::Check),
-        ("trial flow 2 0", trial(TrialKind::Flow, 2, 0)),
-        (
-            "trial augment 128 4294967295",
-            trial(TrialKind::Augment, 128, u32::MAX),
-        ),
-        (
-            "trial augment-arcs 40 7",
-            trial(TrialKind::AugmentArcs, 40, 7),
-        ),
-        (
-            "trial arborescences 40 7",
-            trial(TrialKind::Arborescences, 40, 7),
-        ),
-        ("trial trees 40 7", trial(TrialKind::Trees, 40, 7)),
-        ("trial forests 40 7", trial(TrialKind::Forests, 40, 7)),
-        ("trial orient 40 7", trial(TrialKind::Orient, 40, 7)),
-        ("trial dijoin 40 7", trial(TrialKind::Dijoin, 40, 7)),
-    ];
-    are_commands(&rt, rt.alloc(), &commands)?;
-    let faults: [(usize, &[&str]); 5] = [
-        (1, &["", "flows", "Flow", "caf\u{e9}", "1"]),
-        (
-            2,
-            &[
-                "flow",
-                "cuttree x",
-                "augment",
-                "augment ",
-                "augment 0",
-                "augment 00",
-                "augment 02",
-                "augment 33",
-                "augment +2",
-                "augment -2",
-                "augment 2x",
-                "augment \u{663}",
-                "augment 4294967298",
-                "augment-arcs 33",
-                "orient 0",
-                "arborescences",
-                "trees trees",
-                "forests ",
-                "dijoin 1",
-                "check check",
-                "trial",
-                "trial cuttree 2 0",
-                "trial check 2 0",
-            ],
-        ),
-        (
-            3,
-            &[
-                "flow a",
-                "augment 2 ",
-                "arborescences a b",
-                "trial flow",
-                "trial flow 1 0",
-                "trial flow 129 0",
-                "trial flow 02 0",
-                "trial flow  0",
-            ],
-        ),
-        (
-            4,
-            &[
-                "flow a b c",
-                "trial flow 2",
-                "trial flow 2 4294967296",
-                "trial flow 2 00",
-                "trial flow 2 ",
-                "trial flow 2 -0",
-            ],
-        ),
-        (5, &["trial flow 2 0 0"]),
-    ];
-    for (place, lines) in faults {
-        are_bad_at(&rt, rt.alloc(), place, lines)?;
-    }
-    same(
-        &rt,
-        &read_words(&[]),
-        &Err(WordFault { place: 1 }),
-        &"no word",
-    );
+    are_read(&rt, rt.alloc(), &COMMANDS)?;
+    are_trials(&rt, rt.alloc(), &TRIALS)?;
+    are_bad(&rt, rt.alloc(), &FAULTS)?;
+    let fault = WordFault { place: 1 };
+    same(&rt, &read_words(&[]), &Err(fault), &"no word");
     Ok(())
 }
 
-fn trial(kind: TrialKind, nodes: u32, number: u32) -> Command {
-    Command::Trial {
-        kind,
-        nodes,
-        number,
-    }
-}
-
-const ONE_NODE: &[u8] = b"graph undirected\nnode a\nend\n";
-
-const ONE_NODE_OF_ARCS: &[u8] = b"graph directed\nnode a\nend\n";
+// A graph, a command, and what it asks.
+const ASKS: [(&[u8], &str, Result<Ask, Misfit>); 26] = [
+    (EDGE, "flow a b", Ok(Ask::Flow { from: 0, to: 1 })),
+    (ARC, "flow b a", Ok(Ask::Flow { from: 1, to: 0 })),
+    (EDGE, "flow a q", Err(Misfit::Node)),
+    (EDGE, "flow q q", Err(Misfit::Node)),
+    (EDGE, "flow a ", Err(Misfit::Node)),
+    (EDGE, "flow a a", Err(Misfit::Same)),
+    (ONE_NODE, "flow a a", Err(Misfit::Same)),
+    (EDGE, "cuttree", Ok(Ask::CutTree)),
+    (ARC, "cuttree", Err(Misfit::Kind)),
+    (EDGE, "augment 3", Ok(Ask::Augment { k: 3 })),
+    (ARC, "augment 3", Err(Misfit::Kind)),
+    (ARC, "augment-arcs 32", Ok(Ask::AugmentArcs { k: 32 })),
+    (EDGE, "augment-arcs 32", Err(Misfit::Kind)),
+    (ARC, "arborescences b", Ok(Ask::Arborescences { root: 1 })),
+    (EDGE, "arborescences q", Err(Misfit::Kind)),
+    (ARC, "arborescences q", Err(Misfit::Node)),
+    (ONE_NODE_OF_ARCS, "arborescences q", Err(Misfit::Node)),
+    (ONE_NODE_OF_ARCS, "arborescences a", Err(Misfit::Small)),
+    (EDGE, "trees", Ok(Ask::Trees)),
+    (ARC, "trees", Err(Misfit::Kind)),
+    (ONE_NODE, "trees", Err(Misfit::Small)),
+    (ONE_NODE_OF_ARCS, "trees", Err(Misfit::Kind)),
+    (ONE_NODE, "forests", Ok(Ask::Forests)),
+    (EDGE, "orient 2", Ok(Ask::Orient { k: 2 })),
+    (ARC, "dijoin", Ok(Ask::Dijoin)),
+    (EDGE, "dijoin", Err(Misfit::Kind)),
+];
 
 fn asked(graph: &Graph, words: &[String]) -> Option<Result<Ask, Misfit>> {
     match read_words(words) {
@@ -171,33 +192,5 @@ fn are_asked(
 
 #[test]
 fn an_ask_names_nodes_or_has_its_first_misfit(rt: HostRuntime) -> Result<(), Fail> {
-    let table = [
-        (EDGE, "flow a b", Ok(Ask::Flow { from: 0, to: 1 })),
-        (ARC, "flow b a", Ok(Ask::Flow { from: 1, to: 0 })),
-        (EDGE, "flow a q", Err(Misfit::Node)),
-        (EDGE, "flow q q", Err(Misfit::Node)),
-        (EDGE, "flow a ", Err(Misfit::Node)),
-        (EDGE, "flow a a", Err(Misfit::Same)),
-        (ONE_NODE, "flow a a", Err(Misfit::Same)),
-        (EDGE, "cuttree", Ok(Ask::CutTree)),
-        (ARC, "cuttree", Err(Misfit::Kind)),
-        (EDGE, "augment 3", Ok(Ask::Augment { k: 3 })),
-        (ARC, "augment 3", Err(Misfit::Kind)),
-        (ARC, "augment-arcs 32", Ok(Ask::AugmentArcs { k: 32 })),
-        (EDGE, "augment-arcs 32", Err(Misfit::Kind)),
-        (ARC, "arborescences b", Ok(Ask::Arborescences { root: 1 })),
-        (EDGE, "arborescences q", Err(Misfit::Kind)),
-        (ARC, "arborescences q", Err(Misfit::Node)),
-        (ONE_NODE_OF_ARCS, "arborescences q", Err(Misfit::Node)),
-        (ONE_NODE_OF_ARCS, "arborescences a", Err(Misfit::Small)),
-        (EDGE, "trees", Ok(Ask::Trees)),
-        (ARC, "trees", Err(Misfit::Kind)),
-        (ONE_NODE, "trees", Err(Misfit::Small)),
-        (ONE_NODE_OF_ARCS, "trees", Err(Misfit::Kind)),
-        (ONE_NODE, "forests", Ok(Ask::Forests)),
-        (EDGE, "orient 2", Ok(Ask::Orient { k: 2 })),
-        (ARC, "dijoin", Ok(Ask::Dijoin)),
-        (EDGE, "dijoin", Err(Misfit::Kind)),
-    ];
-    are_asked(&rt, rt.alloc(), &table)
+    are_asked(&rt, rt.alloc(), &ASKS)
 }

@@ -16,9 +16,17 @@ pub const SQUARE: &[u8] =
 pub const K4: &[u8] =
     b"graph undirected\nnode a\nnode b\nnode c\nnode d\nedge a b\nedge a c\nedge a d\nedge b c\nedge b d\nedge c d\nend\n";
 
+/// The complete graph on five nodes.
+pub const K5: &[u8] =
+    b"graph undirected\nnode a\nnode b\nnode c\nnode d\nnode e\nedge a b\nedge a c\nedge a d\nedge a e\nedge b c\nedge b d\nedge b e\nedge c d\nedge c e\nedge d e\nend\n";
+
 /// Each ordered pair of three nodes.
 pub const COMPLETE: &[u8] =
     b"graph directed\nnode a\nnode b\nnode c\narc a b\narc a c\narc b a\narc b c\narc c a\narc c b\nend\n";
+
+pub const ONE_NODE: &[u8] = b"graph undirected\nnode a\nend\n";
+
+pub const ONE_NODE_OF_ARCS: &[u8] = b"graph directed\nnode a\nend\n";
 
 pub const EDGE: &[u8] = b"graph undirected\nnode a\nnode b\nedge a b\nend\n";
 
@@ -26,8 +34,15 @@ pub const ARC: &[u8] = b"graph directed\nnode a\nnode b\narc a b\nend\n";
 
 pub const TWO_ALONE: &[u8] = b"graph directed\nnode a\nnode b\nend\n";
 
+pub const THREE_ALONE: &[u8] = b"graph undirected\nnode a\nnode b\nnode c\nend\n";
+
+pub const FOUR_ALONE: &[u8] = b"graph undirected\nnode a\nnode b\nnode c\nnode d\nend\n";
+
 /// Two arcs out of one node.
 pub const OUT_STAR: &[u8] = b"graph directed\nnode a\nnode b\nnode c\narc a b\narc a c\nend\n";
+
+/// No arc leads to the last node.
+pub const UNREACHED: &[u8] = b"graph directed\nnode a\nnode b\nnode c\narc a b\narc c b\nend\n";
 
 pub const PATH: &[u8] = b"graph undirected\nnode a\nnode b\nnode c\nedge a b\nedge b c\nend\n";
 

@@ -7,7 +7,7 @@ returns-then-n-eq0 c = λ k is e.
     let same : c.in-Some.n ≡ k = only-k c.in-Some.n k _ c.in-Some.ensures.0 is.1 c.in-Some.ensures.1 e in
     omega (arith, same, is.0)
 
-pub returns-then-n-gt32 : goal.returns-then-n-gt32
-returns-then-n-gt32 c = λ k is e.
+pub returns-then-n-gt-MOST_K : goal.returns-then-n-gt-MOST_K
+returns-then-n-gt-MOST_K c = λ k is e.
     let same : c.in-Some.n ≡ k = only-k c.in-Some.n k _ c.in-Some.ensures.0 is.1 c.in-Some.ensures.1 e in
     omega (arith, same, is.1)

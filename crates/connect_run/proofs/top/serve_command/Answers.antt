@@ -1,7 +1,7 @@
 use Rattle.std.proofs.Common.{◌≡◌, subst, map, string_bytes}
 use Rattle.connect_words.specs.declared.command.Command.TheVariants.{Trial}
 use Rattle.connect_words.proofs.MeaningLemmas.{one_command}
-use Rattle.connect_run.specs.Reading.{Commands}
+use Rattle.connect_words.specs.Commands.{Writes}
 use Rattle.connect_run.specs.Answer.{AnswersCommand}
 use Rattle.connect_run.specs.TrialCase.{AnswersTrial}
 use Rattle.connect_run.specs.Run.{TellsTrialOf}
@@ -16,14 +16,14 @@ returns-in-Trial-clause-written g c =
     let trial = c.in-Trial in
     let command = Trial trial.kind trial.nodes trial.number in
     let (input, told) = some_input (g.S.Source.left c.args.source.now) in
-    replies-writes words command _ _ _ input _ (subst (Commands words) trial.is c.requires) told
+    replies-writes words command _ _ _ input _ (subst (λ x. Writes x words) trial.is c.requires) told
     (replies-weaker (AnswersTrial trial.kind trial.nodes trial.number) (AnswersCommand command words input) (λ text status answers. answers) _ _ _ c.reply_to_trial.ensures.replies)
 
 pub returns-in-Trial-clause-trial : goal.returns-in-Trial-clause-trial
 returns-in-Trial-clause-trial g c = λ kind nodes number commands.
     let words = map string_bytes c.args.words.now in
     let trial = c.in-Trial in
-    let same : Trial trial.kind trial.nodes trial.number ≡ Trial kind nodes number = one_command words _ _ (subst (Commands words) trial.is c.requires) commands in
+    let same : Trial trial.kind trial.nodes trial.number ≡ Trial kind nodes number = one_command words _ _ (subst (λ x. Writes x words) trial.is c.requires) commands in
     let kind_is : trial.kind ≡ kind = cc in
     let nodes_is : trial.nodes ≡ nodes = cc in
     let number_is : trial.number ≡ number = cc in
