@@ -33,21 +33,29 @@ class Plant:
         self.kind, self.said, self.caught = None, "", None
         self.function = self.place()
 
-    def texts(self, folder):
-        """The texts of the files that the bug changes, by their path in the crate."""
-        path, old, texts = None, None, {}
+    def applied(self, texts, read):
+        """The texts by their path in the crate, with the bug put in; a text that isn't among them is read. And what doesn't
+        apply, or nothing."""
+        path, old, texts = None, None, dict(texts)
         for line in self.lines:
             if line.startswith("file: "):
                 path = line[6:]
-                texts.setdefault(path, (folder / path).read_text(encoding="utf-8"))
+                texts.setdefault(path, read(path))
             elif line.startswith("old: "):
                 old = line[5:]
             elif line.startswith("new: "):
                 if texts[path].count(old) != 1:
-                    sys.exit(f"{self.crate}, {self.title}: the old text stands {texts[path].count(old)} times in {path}: {old}")
+                    return texts, f"the old text stands {texts[path].count(old)} times in {path}: {old}"
                 texts[path] = texts[path].replace(old, line[5:])
             else:
-                sys.exit(f"{self.crate}, {self.title}: no line of a plant: {line}")
+                return texts, f"no line of a plant: {line}"
+        return texts, ""
+
+    def texts(self, folder):
+        """The texts of the files that the bug changes, by their path in the crate."""
+        texts, wrong = self.applied({}, lambda path: (folder / path).read_text(encoding="utf-8"))
+        if wrong:
+            sys.exit(f"{self.crate}, {self.title}: {wrong}")
         return texts
 
     def place(self):
@@ -125,17 +133,21 @@ class Planted:
 
 # ---- proofs
 
-def groups(plants):
-    """Parts of the bugs, each with at most one in a function, and nothing beside one that is in no function."""
+def groups(plants, folder):
+    """Parts of the bugs, each with at most one in a function, and nothing beside one that is in no function or whose old text
+    isn't told from what another one puts in."""
     parts = []
     for plant in plants:
-        free = (part for part in parts if "::" in plant.function and all("::" in it.function and it.function != plant.function for it in part))
-        part = next(free, None)
-        if part:
-            part.append(plant)
+        for part, texts in parts:
+            if "::" in plant.function and all("::" in it.function and it.function != plant.function for it in part):
+                more, wrong = plant.applied(texts, lambda path: (folder / path).read_text(encoding="utf-8"))
+                if not wrong:
+                    part.append(plant)
+                    texts.update(more)
+                    break
         else:
-            parts.append([plant])
-    return parts
+            parts.append(([plant], plant.texts(folder)))
+    return [part for part, _ in parts]
 
 
 def try_proofs(room, crate, plants, jobs, keep):
@@ -145,7 +157,7 @@ def try_proofs(room, crate, plants, jobs, keep):
     if status:
         sys.exit(f"{crate} isn't proved without a bug:\n{said[-2000:]}")
     copy_work(work, seed)
-    for part in groups(plants):
+    for part in groups(plants, folder):
         copy_work(seed, work)
         with Planted(folder, part):
             said, _ = rt(folder, ["check", "--jobs", str(jobs)], jobs)
